@@ -1,0 +1,7 @@
+-- The laws that other crates cite, and those that several functions' proofs cite.
+pub mod Rules
+pub mod Value
+pub mod Scale
+pub mod Convert
+pub mod Back
+pub mod Pattern

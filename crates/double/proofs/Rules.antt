@@ -1,0 +1,118 @@
+-- What a rounding rule of a fraction z / d has to be for the laws of a conversion (`IsRule`), that both rules are one, and what each means.
+-- Another rule joins by a proof that it is one. Assumes nothing.
+use mathlib.Core.Path.{_≡_, refl, sym, ap, _∙_, subst}
+use Prim.Native.Nat.{ℕ, _+_, _*_, _≤_, _<_}
+use native.Mathlib.Nat.{mul-le-mul-right, mul-lt-mul-of-pos-right, le-of-mul-le-mul-right, lt-of-mul-lt-mul-right}
+use native.Mathlib.Omega.{arith}
+use lib.IntN.{ℤ, pos, negsuc, negℤ, natAbs, _+ℤ_, _-ℤ_, _*ℤ_, negℤ-negℤ}
+use lib.Signed.{_≤ℤ_, _<ℤ_}
+use Rattle.integer.specs.Parts.{up, dn, int, nat, _⊕_, _⊖_, _⊡_, neg}
+use Rattle.integer.specs.Round.{floor}
+use Rattle.integer.proofs.Parts.{le!, lt!, eq?, le?, lt?, abs-parts}
+use Rattle.integer.proofs.Laws.{neg-mul, ≤ℤ-antisym, ≤ℤ-of-≡}
+use Rattle.integer.proofs.Floor.{floor-lower, floor-upper, floor-le, floor-gt, floor-unique, floor-mono, floor-exact}
+use Rattle.double.specs.Double.{roundDown, roundUp, ruleOf}
+use Rattle.double.specs.declared.Rounding.{Rounding}
+use Rattle.double.specs.declared.Rounding.the-variants.{Down, Up}
+
+-- ---- what each rule means: z / d - 1 < down ≤ z / d ≤ up < z / d + 1
+pub down-lower : (z : ℤ) {d : ℕ} → 0 < d → (roundDown z d *ℤ pos d) ≤ℤ z
+down-lower z D = floor-le z D
+
+pub down-upper : (z : ℤ) {d : ℕ} → 0 < d → z <ℤ (roundDown z d *ℤ pos d +ℤ pos d)
+down-upper z D = floor-gt z D
+
+pub up-lower : (z : ℤ) {d : ℕ} → 0 < d → z ≤ℤ (roundUp z d *ℤ pos d)
+up-lower z {d} D =
+    let q = floor (negℤ z) d in
+    let h = le? (int q ⊡ d) (neg (int z)) (floor-le (negℤ z) D) in
+    le! (int z) (neg (int q) ⊡ d) (omega arith)
+
+pub up-upper : (z : ℤ) {d : ℕ} → 0 < d → (roundUp z d *ℤ pos d) <ℤ (z +ℤ pos d)
+up-upper z {d} D =
+    let q = floor (negℤ z) d in
+    let h = lt? (neg (int z)) (int q ⊡ d ⊕ nat d) (floor-gt (negℤ z) D) in
+    lt! (neg (int q) ⊡ d) (int z ⊕ nat d) (omega arith)
+
+-- ---- a rule
+
+-- it depends on the value of the fraction alone, and no integer lies strictly between the value and its rounding
+pub record IsRule (rule : ℤ → ℕ → ℤ) : Type 0 where
+  pub same : (y z : ℤ) {c d : ℕ} → 0 < c → 0 < d → y *ℤ pos d ≡ z *ℤ pos c → rule y c ≡ rule z d
+  pub not-below : (n z : ℤ) {d : ℕ} → 0 < d → (n *ℤ pos d) ≤ℤ z → n ≤ℤ rule z d
+  pub not-above : (n z : ℤ) {d : ℕ} → 0 < d → z ≤ℤ (n *ℤ pos d) → rule z d ≤ℤ n
+
+floor-same : (y z : ℤ) {c d : ℕ} → 0 < c → 0 < d → y *ℤ pos d ≡ z *ℤ pos c → floor y c ≡ floor z d
+floor-same y z {c} {d} C D e =
+    let q = floor z d in
+    let h = eq? (int y ⊡ d) (int z ⊡ c) e in
+    let l : c * up q + dn y ≤ up y + c * dn q = le-of-mul-le-mul-right {k = d} (omega (arith, mul-le-mul-right c (floor-lower z D))) D in
+    let u : up y + c * dn q < c * up q + dn y + c = lt-of-mul-lt-mul-right d (omega (arith, mul-lt-mul-of-pos-right (floor-upper z D) C)) in
+    floor-unique y q C (le! (int q ⊡ c) (int y) (omega arith)) (lt! (int y) (int q ⊡ c ⊕ nat c) (omega arith))
+
+pub down-rule : IsRule roundDown
+down-rule = record {
+  same = floor-same;
+  not-below = λ n z {d} D h. subst (λ (k : ℤ). k ≤ℤ floor z d) (floor-exact n D) (floor-mono (n *ℤ pos d) z D h);
+  not-above = λ n z {d} D h. subst (λ (k : ℤ). floor z d ≤ℤ k) (floor-exact n D) (floor-mono z (n *ℤ pos d) D h);
+}
+
+neg-le : {a b : ℤ} → a ≤ℤ b → negℤ b ≤ℤ negℤ a
+neg-le {a} {b} h = let k = le? (int a) (int b) h in le! (neg (int b)) (neg (int a)) (omega arith)
+
+pub up-rule : IsRule roundUp
+up-rule = record {
+  same = λ y z C D e. ap negℤ (floor-same (negℤ y) (negℤ z) C D (neg-mul y _ ∙ ap negℤ e ∙ sym (neg-mul z _)));
+  not-below = λ n z {d} D h.
+      subst (λ (k : ℤ). k ≤ℤ roundUp z d) (negℤ-negℤ n) (neg-le (down-rule .not-above (negℤ n) (negℤ z) D (subst (λ (k : ℤ). negℤ z ≤ℤ k) (sym (neg-mul n (pos d))) (neg-le h))));
+  not-above = λ n z {d} D h.
+      subst (λ (k : ℤ). roundUp z d ≤ℤ k) (negℤ-negℤ n) (neg-le (down-rule .not-below (negℤ n) (negℤ z) D (subst (λ (k : ℤ). k ≤ℤ negℤ z) (sym (neg-mul n (pos d))) (neg-le h))));
+}
+
+pub is-rule : (how : Rounding) → IsRule (ruleOf how)
+is-rule Down = down-rule
+is-rule Up = up-rule
+
+-- ---- every rule keeps an integer, and takes no value that is 2^32 or more to one that is less
+pub rule-integer : (rule : ℤ → ℕ → ℤ) → IsRule rule → (n : ℤ) {d : ℕ} → 0 < d → rule (n *ℤ pos d) d ≡ n
+rule-integer rule R n D = ≤ℤ-antisym (R .not-above n _ D (≤ℤ-of-≡ refl)) (R .not-below n _ D (≤ℤ-of-≡ refl))
+
+pub rule-large : (rule : ℤ → ℕ → ℤ) → IsRule rule → (k : ℕ) (z : ℤ) {d : ℕ} → 0 < d → k * d ≤ natAbs z → k ≤ natAbs (rule z d)
+rule-large rule R k (pos a) {d} D h =
+    let g = le? (nat k) (int (rule (pos a) d)) (R .not-below (pos k) (pos a) D (le! (nat k ⊡ d) (nat a) (omega arith))) in
+    omega (arith, abs-parts (rule (pos a) d))
+rule-large rule R k (negsuc a) {d} D h =
+    let g = le? (int (rule (negsuc a) d)) (neg (nat k)) (R .not-above (negℤ (pos k)) (negsuc a) D (le! (int (negsuc a)) (neg (nat k) ⊡ d) (omega arith))) in
+    omega (arith, abs-parts (rule (negsuc a) d))
+
+-- ---- a rule by an integer n that is less than 1 away from z / d
+pub record Within1 (z n : ℤ) (d : ℕ) : Type 0 where
+  pub lower : (n *ℤ pos d) <ℤ (z +ℤ pos d)
+  pub upper : z <ℤ (n *ℤ pos d +ℤ pos d)
+
+-- the ceiling is the only integer of which `up-lower` and `up-upper` hold
+pub up-unique : (z q : ℤ) {d : ℕ} → 0 < d → z ≤ℤ (q *ℤ pos d) → (q *ℤ pos d) <ℤ (z +ℤ pos d) → roundUp z d ≡ q
+up-unique z q {d} D h k =
+    let a = le? (int z) (int q ⊡ d) h in
+    let b = lt? (int q ⊡ d) (int z ⊕ nat d) k in
+    ap negℤ (floor-unique (negℤ z) (negℤ q) D (le! (neg (int q) ⊡ d) (neg (int z)) (omega arith)) (lt! (neg (int z)) (neg (int q) ⊡ d ⊕ nat d) (omega arith)))
+    ∙ negℤ-negℤ q
+
+module _ (z n : ℤ) {d : ℕ} (D : 0 < d) (k : Within1 z n d) where
+  pub down-less : z <ℤ (n *ℤ pos d) → n -ℤ pos 1 ≡ roundDown z d
+  down-less h =
+      let a = lt? (int z) (int n ⊡ d) h in
+      let b = lt? (int n ⊡ d) (int z ⊕ nat d) (k .lower) in
+      sym (floor-unique z (n -ℤ pos 1) D (le! ((int n ⊖ nat 1) ⊡ d) (int z) (omega arith)) (lt! (int z) ((int n ⊖ nat 1) ⊡ d ⊕ nat d) (omega arith)))
+
+  pub down-same : (n *ℤ pos d) ≤ℤ z → n ≡ roundDown z d
+  down-same h = sym (floor-unique z n D h (k .upper))
+
+  pub up-more : (n *ℤ pos d) <ℤ z → n +ℤ pos 1 ≡ roundUp z d
+  up-more h =
+      let a = lt? (int n ⊡ d) (int z) h in
+      let b = lt? (int z) (int n ⊡ d ⊕ nat d) (k .upper) in
+      sym (up-unique z (n +ℤ pos 1) D (le! (int z) ((int n ⊕ nat 1) ⊡ d) (omega arith)) (lt! ((int n ⊕ nat 1) ⊡ d) (int z ⊕ nat d) (omega arith)))
+
+  pub up-same : z ≤ℤ (n *ℤ pos d) → n ≡ roundUp z d
+  up-same h = sym (up-unique z n D h (k .lower))

@@ -1,0 +1,3 @@
+-- What contracts cite.
+pub mod Double
+pub mod Examples
