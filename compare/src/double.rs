@@ -1,0 +1,79 @@
+//! Doubles to words and back, by whole numbers on the double's bits: no floating-point operation takes part.
+
+use crate::image::{Number, sizes_of_word_fit, top};
+
+#[derive(Clone, Copy, Debug, PartialEq, Eq)]
+pub enum Rounding {
+    Down,
+    Up,
+}
+
+const FRACTION: u32 = 52;
+const BIAS: i32 = 1023;
+
+/// A finite double is mantissa × 2^exponent.
+fn parts(double: u64) -> Option<(i128, i32)> {
+    let field = (double >> FRACTION & 0x7FF) as i32;
+    let fraction = (double & ((1 << FRACTION) - 1)) as i128;
+    let (mantissa, exponent) = match field {
+        0x7FF => return None,
+        0 => (fraction, 1),
+        _ => (fraction | 1 << FRACTION, field),
+    };
+    let sign = if double >> 63 == 1 { -1 } else { 1 };
+    Some((sign * mantissa, exponent - BIAS - FRACTION as i32))
+}
+
+/// The double times 2^bits, rounded; None for NaN, infinity and whatever is far beyond every word.
+fn round(double: u64, bits: u32, rounding: Rounding) -> Option<i128> {
+    let (mantissa, exponent) = parts(double)?;
+    let shift = exponent + bits as i32;
+    if shift >= 0 {
+        // From 2^64 on the value is outside every word, whatever the shift.
+        return match mantissa {
+            0 => Some(0),
+            _ if shift > 64 => None,
+            _ => Some(mantissa << shift),
+        };
+    }
+    // A shift by 100 already takes away every bit of the mantissa, as any longer one would.
+    let places = (-shift).min(100);
+    Some(match rounding {
+        Rounding::Down => mantissa >> places,
+        Rounding::Up => -(-mantissa >> places),
+    })
+}
+
+pub fn to_word(double: u64, bits: u32, width: u32, rounding: Rounding) -> Option<i64> {
+    let limit = top(width) as i128;
+    let word = round(double, bits, rounding)?;
+    (-limit..=limit).contains(&word).then_some(word as i64)
+}
+
+/// A motor's pair of limits, rounded inward.
+pub fn inward(low: u64, high: u64, bits: u32, width: u32) -> Option<(i64, i64)> {
+    Some((to_word(low, bits, width, Rounding::Up)?, to_word(high, bits, width, Rounding::Down)?))
+}
+
+/// The bits of the double value / 2^bits.
+pub fn of_word(value: i64, bits: u32, width: u32) -> Result<u64, Number> {
+    if !sizes_of_word_fit(bits as i64, width as i64) {
+        return Err(3);
+    }
+    if value.unsigned_abs() > top(width) as u64 {
+        return Err(5);
+    }
+    Ok(of_count(value, bits))
+}
+
+/// The same without a word's range: for values of magnitude below 2^53.
+pub fn of_count(value: i64, bits: u32) -> u64 {
+    let magnitude = value.unsigned_abs();
+    if magnitude == 0 {
+        return 0;
+    }
+    let leading = magnitude.ilog2();
+    let fraction = magnitude << (FRACTION - leading) & ((1 << FRACTION) - 1);
+    let exponent = (leading as i32 - bits as i32 + BIAS) as u64;
+    (u64::from(value < 0) << 63) | exponent << FRACTION | fraction
+}

@@ -1,0 +1,66 @@
+//! A problem in the making: sizes and body words, written as an image or a sheet.
+
+use crate::double::of_count;
+use crate::image::{Problem, Sizes, bytes};
+use crate::sheet::{Frame, hex};
+
+#[derive(Clone)]
+pub struct Draft {
+    pub sizes: Sizes,
+    pub body: Vec<i64>,
+}
+
+impl Draft {
+    pub fn new(sizes: Sizes) -> Draft {
+        Draft { sizes, body: vec![0; sizes.body_words()] }
+    }
+
+    /// The entries of a section, rows outermost.
+    pub fn section(&mut self, kind: u8) -> &mut [i64] {
+        let (start, length) = self.sizes.extent(kind);
+        &mut self.body[start..start + length]
+    }
+
+    /// The same draft with other words in a section.
+    pub fn with(mut self, kind: u8, words: &[i64]) -> Draft {
+        self.section(kind).copy_from_slice(words);
+        self
+    }
+
+    pub fn iterations(mut self, iterations: usize) -> Draft {
+        self.sizes.iterations = iterations;
+        self
+    }
+
+    pub fn problem(&self) -> Problem {
+        Problem::new(self.sizes, &self.body)
+    }
+
+    pub fn image(&self) -> Vec<u8> {
+        bytes(&[&self.sizes.words(), &self.body[..]].concat())
+    }
+
+    /// The sheet's frames; a body word's double comes from value, which is given the word's index.
+    pub fn frames(&self, mut value: impl FnMut(usize) -> u64) -> Vec<Frame> {
+        let Sizes { motors, steps, states, bits, width, iterations } = self.sizes;
+        let [high, low] = (iterations as u16).to_be_bytes();
+        let sizes = [1, motors as u8, steps as u8, states as u8, bits as u8, width as u8, 0, high, low, 0, 0];
+        let mut frames = vec![sizes];
+        for (i, (section, row, column)) in self.sizes.places().enumerate() {
+            let mut frame = [section.kind, row as u8, column as u8, 0, 0, 0, 0, 0, 0, 0, 0];
+            frame[3..].copy_from_slice(&value(i).to_be_bytes());
+            frames.push(frame);
+        }
+        frames
+    }
+
+    /// The sheet whose doubles are the words exactly.
+    pub fn sheet(&self) -> Vec<u8> {
+        text(&self.frames(|i| of_count(self.body[i], self.sizes.bits)))
+    }
+}
+
+pub fn text(frames: &[Frame]) -> Vec<u8> {
+    let line = |frame: &Frame| hex(frame) + "\n";
+    frames.iter().map(line).collect::<String>().into_bytes()
+}

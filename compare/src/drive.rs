@@ -1,0 +1,200 @@
+//! The calls under comparison, and the drives that can answer them.
+
+use crate::double::{self, Rounding};
+use crate::image::{Number, bytes};
+use crate::rules::Rules;
+use crate::{sheet, solve};
+
+#[derive(Clone, Copy, Debug, PartialEq, Eq)]
+pub enum Kind {
+    Intake,
+    ColdStart,
+    Solve,
+    ToWord,
+    Inward,
+    ToDouble,
+}
+
+impl Kind {
+    pub fn name(self) -> &'static str {
+        match self {
+            Kind::Intake => "intake",
+            Kind::ColdStart => "cold_start",
+            Kind::Solve => "solve",
+            Kind::ToWord => "to_word",
+            Kind::Inward => "inward",
+            Kind::ToDouble => "to_double",
+        }
+    }
+
+    /// The names of its numbers, then of its lent buffers.
+    pub fn arguments(self) -> (&'static [&'static str], &'static [&'static str]) {
+        match self {
+            Kind::Intake => (&[], &["sheet"]),
+            Kind::ColdStart => (&[], &["image"]),
+            Kind::Solve => (&[], &["image", "state", "start"]),
+            Kind::ToWord => (&["bits", "b", "w", "up"], &[]),
+            Kind::Inward => (&["low_bits", "high_bits", "b", "w"], &[]),
+            Kind::ToDouble => (&["value", "b", "w"], &[]),
+        }
+    }
+}
+
+/// One call with all that it is given.
+pub struct Call {
+    pub kind: Kind,
+    pub numbers: Vec<u64>,
+    pub inputs: Vec<Vec<u8>>,
+    pub out_len: usize,
+}
+
+impl Call {
+    pub fn on_buffers(kind: Kind, inputs: &[&[u8]], out_len: usize) -> Call {
+        let inputs = inputs.iter().map(|input| input.to_vec()).collect();
+        Call { kind, numbers: Vec::new(), inputs, out_len }
+    }
+
+    pub fn on_numbers(kind: Kind, numbers: &[u64]) -> Call {
+        let out_len = if kind == Kind::ToWord { 4 } else { 8 };
+        Call { kind, numbers: numbers.to_vec(), inputs: Vec::new(), out_len }
+    }
+}
+
+/// What a call answers: its number, and the bytes of its output buffer unless it leaves them.
+#[derive(Clone, Debug, PartialEq, Eq)]
+pub struct Outcome {
+    pub number: Number,
+    pub written: Option<Vec<u8>>,
+}
+
+pub trait Drive {
+    fn call(&self, kind: Kind, numbers: &[u64], inputs: &[&[u8]], out: &mut [u8]) -> Number;
+}
+
+/// Document 01's outcome, or that of a false economy.
+pub fn outcome(kind: Kind, numbers: &[u64], inputs: &[&[u8]], out_len: usize, rules: Rules) -> Outcome {
+    let result = match (kind, inputs) {
+        (Kind::Intake, [sheet]) => sheet::intake_call(sheet, out_len, rules),
+        (Kind::ColdStart, [image]) => solve::cold_start_call(image, out_len),
+        (Kind::Solve, [image, state, start]) => solve::solve_call(image, state, start, out_len, rules),
+        _ => return conversion(kind, numbers),
+    };
+    of_result(result)
+}
+
+fn of_result(result: Result<Vec<u8>, Number>) -> Outcome {
+    match result {
+        Ok(written) => Outcome { number: 0, written: Some(written) },
+        Err(number) => Outcome { number, written: None },
+    }
+}
+
+fn conversion(kind: Kind, numbers: &[u64]) -> Outcome {
+    let small = |number: u64| number as u32;
+    match (kind, numbers) {
+        (Kind::ToWord, &[double, b, w, up]) => {
+            let rounding = if up == 0 { Rounding::Down } else { Rounding::Up };
+            let word = double::to_word(double, small(b), small(w), rounding);
+            of_result(word.map(|word| bytes(&[word])).ok_or(5))
+        }
+        (Kind::Inward, &[low, high, b, w]) => {
+            let pair = double::inward(low, high, small(b), small(w));
+            of_result(pair.map(|(low, high)| bytes(&[low, high])).ok_or(5))
+        }
+        (Kind::ToDouble, &[value, b, w]) => {
+            let result = double::of_word(value as i64, small(b), small(w));
+            // The one call that writes with every number.
+            let written = Some(result.unwrap_or(0).to_be_bytes().to_vec());
+            Outcome { number: result.err().unwrap_or(0), written }
+        }
+        _ => panic!("{kind:?} with other arguments than its own"),
+    }
+}
+
+/// This program's own implementation, standing in for the library.
+pub struct Reference {
+    pub rules: Rules,
+}
+
+impl Drive for Reference {
+    fn call(&self, kind: Kind, numbers: &[u64], inputs: &[&[u8]], out: &mut [u8]) -> Number {
+        let outcome = outcome(kind, numbers, inputs, out.len(), self.rules);
+        if let Some(written) = outcome.written {
+            out.copy_from_slice(&written);
+        }
+        outcome.number
+    }
+}
+
+#[cfg(linked)]
+pub use linked::Linked;
+
+#[cfg(linked)]
+mod linked {
+    use super::{Drive, Kind, Number};
+
+    unsafe extern "C" {
+        fn gantry_intake(sheet: *const u8, sheet_len: usize, image: *mut u8, image_len: usize) -> u32;
+        fn gantry_cold_start(image: *const u8, image_len: usize, start: *mut u8, start_len: usize) -> u32;
+        fn gantry_solve(
+            image: *const u8,
+            image_len: usize,
+            state: *const u8,
+            state_len: usize,
+            start: *const u8,
+            start_len: usize,
+            answer: *mut u8,
+            answer_len: usize,
+        ) -> u32;
+    }
+
+    /// The static library.
+    pub struct Linked;
+
+    impl Drive for Linked {
+        fn call(&self, kind: Kind, numbers: &[u64], inputs: &[&[u8]], out: &mut [u8]) -> Number {
+            let (to, room) = (out.as_mut_ptr(), out.len());
+            // SAFETY: every pointer comes with the length of the slice it was taken from.
+            unsafe {
+                match (kind, inputs) {
+                    (Kind::Intake, [sheet]) => gantry_intake(sheet.as_ptr(), sheet.len(), to, room),
+                    (Kind::ColdStart, [image]) => gantry_cold_start(image.as_ptr(), image.len(), to, room),
+                    (Kind::Solve, [image, state, start]) => gantry_solve(
+                        image.as_ptr(),
+                        image.len(),
+                        state.as_ptr(),
+                        state.len(),
+                        start.as_ptr(),
+                        start.len(),
+                        to,
+                        room,
+                    ),
+                    _ => super::probe(kind, numbers, to, room),
+                }
+            }
+        }
+    }
+}
+
+#[cfg(probe)]
+unsafe fn probe(kind: Kind, numbers: &[u64], out: *mut u8, room: usize) -> Number {
+    unsafe extern "C" {
+        fn probe_to_word(bits: u64, b: u32, w: u32, up: u32, out: *mut u8, out_len: usize) -> u32;
+        fn probe_inward(low: u64, high: u64, b: u32, w: u32, out: *mut u8, out_len: usize) -> u32;
+        fn probe_to_double(value: i64, b: u32, w: u32, out: *mut u8, out_len: usize) -> u32;
+    }
+    let small = |number: u64| number as u32;
+    unsafe {
+        match (kind, numbers) {
+            (Kind::ToWord, &[bits, b, w, up]) => probe_to_word(bits, small(b), small(w), small(up), out, room),
+            (Kind::Inward, &[low, high, b, w]) => probe_inward(low, high, small(b), small(w), out, room),
+            (Kind::ToDouble, &[value, b, w]) => probe_to_double(value as i64, small(b), small(w), out, room),
+            _ => panic!("{kind:?} with other arguments than its own"),
+        }
+    }
+}
+
+#[cfg(all(linked, not(probe)))]
+unsafe fn probe(kind: Kind, _: &[u64], _: *mut u8, _: usize) -> Number {
+    panic!("{kind:?} without libprobe.a")
+}

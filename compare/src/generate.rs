@@ -1,0 +1,527 @@
+//! Random problems that every check accepts, and near misses of each number made from them on purpose.
+
+use crate::double::{Rounding, of_count};
+use crate::draft::{Draft, text};
+use crate::image::{COST, GAIN, HIGH, LOW, MOMENTUM, Number, STATE_LIMIT, Sizes, bytes};
+use crate::random::Random;
+use crate::sheet::{Frame, LINE, hex};
+
+pub const INTAKE_NUMBERS: [Number; 12] = [1, 2, 3, 4, 5, 7, 8, 9, 10, 11, 12, 15];
+pub const COLD_START_NUMBERS: [Number; 10] = [3, 5, 6, 7, 8, 9, 10, 11, 12, 15];
+pub const SOLVE_NUMBERS: [Number; 12] = [3, 5, 6, 7, 8, 9, 10, 11, 12, 13, 14, 15];
+pub const LABEL_NUMBERS: [Number; 12] = [1, 2, 3, 4, 5, 7, 8, 9, 10, 11, 12, 13];
+
+/// What is to be spoilt: the numbers to provoke, and whether bytes are damaged at random besides.
+pub struct Plan {
+    numbers: Vec<Number>,
+    damage: bool,
+}
+
+impl Plan {
+    /// In turn each number alone, nothing, several numbers together, and damage.
+    pub fn new(random: &mut Random, index: u64, numbers: &[Number]) -> Plan {
+        let turn = index as usize % (2 * numbers.len());
+        let several = 2 + random.below(2);
+        let (numbers, damage) = match turn.checked_sub(numbers.len()) {
+            None => (vec![numbers[turn]], false),
+            Some(0) => (vec![], true),
+            Some(1..6) => ((0..several).map(|_| random.pick(numbers)).collect(), false),
+            Some(_) => (vec![], false),
+        };
+        Plan { numbers, damage }
+    }
+
+    /// A plan that leaves an accepted problem as it is.
+    pub fn nothing() -> Plan {
+        Plan { numbers: vec![], damage: false }
+    }
+
+    pub fn is_nothing(&self) -> bool {
+        self.numbers.is_empty() && !self.damage
+    }
+
+    fn has(&self, number: Number) -> bool {
+        self.numbers.contains(&number)
+    }
+}
+
+fn sizes(random: &mut Random) -> Sizes {
+    let largest = random.one_in(16);
+    let all: Vec<(usize, usize)> = (1..=4).flat_map(|nu| (1..=16 / nu).map(move |steps| (nu, steps))).collect();
+    let (motors, steps) = random.pick(if largest { &[(1, 16), (2, 8), (4, 4)] } else { &all });
+    let states = if largest { 12 } else { random.between(1, 12) };
+    let width = if largest { 32 } else { random.between(8, 32) };
+    let iterations = match random.below(32) {
+        0 => 400,
+        1 => random.between(1, 400),
+        2..6 => random.between(1, 60),
+        _ => random.between(1, 8),
+    };
+    Sizes {
+        motors,
+        steps,
+        states: states as usize,
+        bits: random.between(4, (width - 2).min(20)) as u32,
+        width: width as u32,
+        iterations: iterations as usize,
+    }
+}
+
+/// H: symmetric, with a margin of at least 1 and a total of at most 2^b in each row, both often met exactly.
+fn cost_table(random: &mut Random, sizes: &Sizes) -> Vec<i64> {
+    let (n, one) = (sizes.commands(), sizes.one());
+    let most = (one - 1) / 2;
+    let mut table = vec![0; n * n];
+    let mut room = vec![most; n];
+    let (rarity, share) = (random.pick(&[1, 1, 2, 5, 50]), random.pick(&[1, 2, n as i64]));
+    for (i, j) in (0..n).flat_map(|i| (0..i).map(move |j| (i, j))) {
+        if random.one_in(rarity) {
+            let magnitude = random.magnitude(room[i].min(room[j]) / share);
+            table[i * n + j] = magnitude * random.sign();
+            table[j * n + i] = table[i * n + j];
+            room[i] -= magnitude;
+            room[j] -= magnitude;
+        }
+    }
+    for i in 0..n {
+        let (least, largest) = (most - room[i] + 1, one - (most - room[i]));
+        let between = random.between(least, largest);
+        table[i * n + i] = random.pick(&[least, largest, between, between]);
+    }
+    table
+}
+
+fn limits(random: &mut Random, most: i64) -> (i64, i64) {
+    let (a, b) = (random.between(-most, most), random.between(-most, most));
+    let pairs = [(-most, most), (0, most), (-most, 0), (a, a), (a.min(b), a.max(b)), (a.min(b), a.max(b))];
+    random.pick(&pairs)
+}
+
+/// The least β that check 11 lets pass.
+fn least_momentum(draft: &Draft) -> i64 {
+    let mut problem = draft.problem();
+    let (mut least, mut most) = (0, draft.sizes.one() - 1);
+    while least < most {
+        problem.momentum = (least + most) / 2;
+        if problem.momentum_does_not_fit() {
+            least = problem.momentum + 1;
+        } else {
+            most = problem.momentum;
+        }
+    }
+    least
+}
+
+fn choose_limits(random: &mut Random, draft: &mut Draft) {
+    if random.one_in(8) {
+        // As wide as can be: with 32-bit words and many sweeps some bounds then pass 2^31.
+        draft.sizes.iterations = random.pick(&[draft.sizes.iterations, 400]);
+        push_to_headroom(draft, 0, |draft, magnitude| {
+            draft.section(LOW).fill(-magnitude);
+            draft.section(HIGH).fill(magnitude);
+        });
+        return;
+    }
+    let most = random.magnitude(draft.sizes.top());
+    for motor in 0..draft.sizes.motors {
+        let (low, high) = limits(random, most);
+        draft.section(LOW)[motor] = low;
+        draft.section(HIGH)[motor] = high;
+    }
+    halve_to_headroom(draft, &[LOW, HIGH]);
+}
+
+/// A problem that every check accepts.
+pub fn accepted(random: &mut Random) -> Draft {
+    let sizes = sizes(random);
+    let (one, top) = (sizes.one(), sizes.top());
+    let mut draft = Draft::new(sizes);
+    let table = cost_table(random, &sizes);
+    draft = draft.with(COST, &table);
+    let least = least_momentum(&draft);
+    let between = random.between(least, one - 1);
+    draft.section(MOMENTUM)[0] = random.pick(&[least, least, between, between, one - 1]);
+    choose_limits(random, &mut draft);
+    let most = random.magnitude(top);
+    draft.section(GAIN).iter_mut().for_each(|gain| *gain = random.magnitude(most) * random.sign());
+    draft.section(STATE_LIMIT).iter_mut().for_each(|limit| *limit = random.magnitude(top));
+    halve_to_headroom(&mut draft, if random.one_in(2) { &[GAIN] } else { &[STATE_LIMIT] });
+    if random.one_in(3) {
+        at_headroom(random, &mut draft, 0);
+    }
+    assert_eq!(draft.problem().check(), Ok(()));
+    draft
+}
+
+fn halve_to_headroom(draft: &mut Draft, kinds: &[u8]) {
+    while draft.problem().leaves_headroom() {
+        for &kind in kinds {
+            draft.section(kind).iter_mut().for_each(|word| *word /= 2);
+        }
+    }
+}
+
+/// Sets the largest magnitude that check 12 lets pass, and returns it; the one given passes.
+fn push_to_headroom(draft: &mut Draft, passing: i64, set: impl Fn(&mut Draft, i64)) -> i64 {
+    let (mut inside, mut outside) = (passing, draft.sizes.top() + 1);
+    while outside - inside > 1 {
+        let middle = (inside + outside) / 2;
+        set(draft, middle);
+        if draft.problem().leaves_headroom() {
+            outside = middle;
+        } else {
+            inside = middle;
+        }
+    }
+    set(draft, inside);
+    inside
+}
+
+/// Moves one word, or both limits of a motor together, outward to the last value that check 12 lets pass, and then
+/// beyond it by some counts.
+fn at_headroom(random: &mut Random, draft: &mut Draft, beyond: i64) {
+    let kind = random.pick(&[GAIN, GAIN, STATE_LIMIT, LOW, HIGH]);
+    let (start, length) = draft.sizes.extent(kind);
+    let index = random.below(length);
+    let both = kind == HIGH && random.one_in(2);
+    let old = draft.body[start + index];
+    let sign = match kind {
+        LOW => -1,
+        GAIN if old != 0 => old.signum(),
+        GAIN => random.sign(),
+        _ if both => random.sign(),
+        _ => 1,
+    };
+    let set = |draft: &mut Draft, magnitude: i64| {
+        draft.section(kind)[index] = sign * magnitude;
+        if both {
+            draft.section(LOW)[index] = sign * magnitude;
+        }
+    };
+    let last = push_to_headroom(draft, if both { 0 } else { sign * old }, set);
+    set(draft, last + beyond);
+}
+
+/// Provokes one of the numbers 5 and 7 to 12 in the tables.
+fn spoil_tables(random: &mut Random, draft: &mut Draft, number: Number) {
+    let (n, one, top) = (draft.sizes.commands(), draft.sizes.one(), draft.sizes.top());
+    let (row, more) = (random.below(n), if random.one_in(2) { 0 } else { random.magnitude(one) });
+    let radius = draft.problem().radius(row);
+    match number {
+        5 => word_beyond(random, draft),
+        7 => {
+            let motor = random.below(draft.sizes.motors);
+            let high = random.between(-top, draft.section(HIGH)[motor].min(top - 1));
+            draft.section(HIGH)[motor] = high;
+            draft.section(LOW)[motor] = (high + 1 + more).min(top);
+        }
+        8 => {
+            let column = (row + 1 + random.below(n)) % n;
+            let entry = &mut draft.section(COST)[row * n + column];
+            *entry = random.pick(&[*entry + 1, *entry - 1, -*entry]).clamp(-top, top);
+        }
+        9 => draft.section(COST)[row * (n + 1)] = (radius - more).max(-top),
+        10 => draft.section(COST)[row * (n + 1)] = (one - radius + 1 + more).min(top),
+        11 => {
+            let least = least_momentum(draft);
+            let words = [least - 1, least - 1, -1, one, one + more, -more, top, -top];
+            draft.section(MOMENTUM)[0] = random.pick(&words);
+        }
+        12 => at_headroom(random, draft, 1),
+        _ => {}
+    }
+}
+
+fn word_beyond(random: &mut Random, draft: &mut Draft) {
+    let top = draft.sizes.top();
+    if random.one_in(3) {
+        let state = random.below(draft.sizes.states);
+        let word = -1 - random.magnitude(top - 1);
+        draft.section(STATE_LIMIT)[state] = random.pick(&[-1, word]);
+    } else {
+        let index = random.below(draft.body.len());
+        draft.body[index] = random.pick(&[top + 1, -top - 1, i32::MIN as i64]);
+    }
+}
+
+pub struct SolveCase {
+    pub draft: Draft,
+    pub image: Vec<u8>,
+    pub state: Vec<u8>,
+    pub start: Vec<u8>,
+}
+
+/// Values within their limits, often at them.
+fn values_within(random: &mut Random, limits: &[(i64, i64)]) -> Vec<i64> {
+    let pull = random.below(3);
+    let value = |&(low, high): &(i64, i64)| match random.below(4) + pull {
+        0..2 => random.between(low, high),
+        2 => 0.clamp(low.min(high), high),
+        3 => low.max(high - 1),
+        _ => random.pick(&[low, high]),
+    };
+    limits.iter().map(value).collect()
+}
+
+pub fn state_limits(draft: &Draft) -> Vec<(i64, i64)> {
+    draft.problem().input_limits.iter().map(|&limit| (-limit, limit)).collect()
+}
+
+fn command_limits(draft: &Draft) -> Vec<(i64, i64)> {
+    let problem = draft.problem();
+    problem.lower.iter().copied().zip(problem.upper.iter().copied()).collect()
+}
+
+/// The words of a state or start; spoilt, another length or one value beyond its limits.
+fn words_within(random: &mut Random, limits: &[(i64, i64)], spoilt: bool) -> Vec<u8> {
+    let mut values = values_within(random, limits);
+    if !spoilt {
+        return bytes(&values);
+    }
+    if random.one_in(3) {
+        return other_length(random, bytes(&values));
+    }
+    let index = random.below(values.len());
+    let (low, high) = limits[index];
+    values[index] = random.pick(&[low - 1, high + 1, low - 1, high + 1, i32::MIN as i64, i32::MAX as i64]);
+    bytes(&values)
+}
+
+fn other_length(random: &mut Random, mut buffer: Vec<u8>) -> Vec<u8> {
+    let length = other_size(random, buffer.len());
+    buffer.resize(length, 0);
+    buffer
+}
+
+pub fn other_size(random: &mut Random, size: usize) -> usize {
+    let less = random.below(size);
+    random.pick(&[size - 1, size + 1, size - 4, size + 4, size / 2, 2 * size, 0, less])
+}
+
+/// An image with its state and start, spoilt as planned.
+pub fn solve_case(random: &mut Random, plan: &Plan) -> SolveCase {
+    let mut draft = accepted(random);
+    for &number in &plan.numbers {
+        spoil_tables(random, &mut draft, number);
+    }
+    let mut image = draft.image();
+    if plan.has(3) {
+        spoil_header(random, &draft.sizes, &mut image);
+    }
+    if plan.has(6) {
+        let short = random.below(32);
+        let length = other_size(random, image.len());
+        image.resize(random.pick(&[short, 31, 32, length, length]), 0);
+    }
+    let mut state = words_within(random, &state_limits(&draft), plan.has(13));
+    let mut start = words_within(random, &command_limits(&draft), plan.has(14));
+    if plan.damage {
+        match random.below(8) {
+            0 => damage(random, &mut state),
+            1 => damage(random, &mut start),
+            _ => damage(random, &mut image),
+        }
+    }
+    SolveCase { draft, image, state, start }
+}
+
+/// The length of an output buffer, spoilt for number 15.
+pub fn out_len(random: &mut Random, plan: &Plan, exact: usize) -> usize {
+    if plan.has(15) { other_size(random, exact) } else { exact }
+}
+
+fn spoil_header(random: &mut Random, sizes: &Sizes, image: &mut [u8]) {
+    let words = sizes.words();
+    let [motors, _, _, bits, width, iterations, ..] = words;
+    let index = random.below(8);
+    let beyond: &[i64] = match index {
+        0 => &[0, 5, 16],
+        1 => &[0, 17, 16 / motors + 1],
+        2 => &[0, 13],
+        3 => &[3, 21, width - 1],
+        4 => &[7, 33, bits + 1],
+        5 => &[0, 401, iterations + 65536],
+        _ => &[1, 256],
+    };
+    let word = random.pick(beyond);
+    let word = random.pick(&[word, word, word, -1, -words[index], i32::MIN as i64, i32::MAX as i64, 1 << 24]);
+    image[4 * index..4 * index + 4].copy_from_slice(&bytes(&[word]));
+    if random.one_in(8) {
+        // Sizes whose product is small again once it is cut to 32 bits.
+        image[..8].copy_from_slice(&bytes(&[1 << 16, 1 << 16]));
+    }
+}
+
+/// Changes one to three bytes at random.
+fn damage(random: &mut Random, buffer: &mut [u8]) {
+    for _ in 0..=random.below(3) {
+        let index = random.below(buffer.len());
+        let (flipped, other) = (buffer[index] ^ 1 << random.below(8), random.next() as u8);
+        buffer[index] = random.pick(&[flipped, flipped, other]);
+    }
+}
+
+/// The double beside this one, upward or downward.
+pub fn beside(double: u64, direction: i64) -> u64 {
+    let negative = double >> 63 == 1;
+    match double << 1 {
+        0 if direction > 0 => 1,
+        0 => 1 << 63 | 1,
+        _ if negative == (direction < 0) => double + 1,
+        _ => double - 1,
+    }
+}
+
+/// A double that rounds to the word.
+fn double_near(random: &mut Random, word: i64, bits: u32, rounding: Rounding) -> u64 {
+    let exact = of_count(word, bits);
+    let away = if rounding == Rounding::Down { 1 } else { -1 };
+    match random.below(8) {
+        0 if word == 0 => 1 << 63,
+        1 => beside(exact, away),
+        2 => beside(of_count(word + away, bits), -away),
+        3 => of_count(2 * word + away, bits + 1),
+        4 => of_count((word << 20) + away * random.between(0, (1 << 20) - 1), bits + 20),
+        _ => exact,
+    }
+}
+
+/// Doubles at the end of the word, on both sides of it, and those that are no number.
+pub fn edge_doubles(bits: u32, width: u32) -> Vec<u64> {
+    let top = crate::image::top(width);
+    let mut edges = vec![0x7FF0_0000_0000_0001, 0x7FF8_0000_0000_0000, 0xFFF8_0000_0000_0000, u64::MAX];
+    for positive in [f64::INFINITY, f64::MAX, f64::MIN_POSITIVE, 1e300, 2f64.powi(1023), 2f64.powi(1023 - bits as i32)]
+    {
+        edges.extend([positive.to_bits(), (-positive).to_bits()]);
+    }
+    for count in [top, top + 1, top + 2, 2 * top, 1, 2] {
+        for value in [count, -count] {
+            let double = of_count(value, bits);
+            edges.extend([double, beside(double, 1), beside(double, -1), of_count(2 * value + 1, bits + 1)]);
+        }
+    }
+    edges.extend([0, 1 << 63, 1, 1 << 63 | 1, of_count(1, bits + 1), of_count(-1, bits + 1)]);
+    edges
+}
+
+/// A sheet's text, spoilt as planned, and the draft it was made from.
+pub fn sheet_case(random: &mut Random, plan: &Plan) -> (Draft, Vec<u8>) {
+    let mut draft = accepted(random);
+    for &number in &plan.numbers {
+        spoil_tables(random, &mut draft, number);
+    }
+    let places: Vec<_> = draft.sizes.places().collect();
+    let mut frames = draft.frames(|i| double_near(random, draft.body[i], draft.sizes.bits, places[i].0.rounding));
+    for &number in &plan.numbers {
+        spoil_frames(random, &draft.sizes, &mut frames, number);
+    }
+    let mut text = text(&frames);
+    for &number in &plan.numbers {
+        spoil_text(random, &mut text, number);
+    }
+    if plan.damage && !text.is_empty() {
+        damage(random, &mut text);
+    }
+    (draft, text)
+}
+
+/// Provokes 2, 3 or 5 in the frames.
+fn spoil_frames(random: &mut Random, sizes: &Sizes, frames: &mut Vec<Frame>, number: Number) {
+    let line = random.below(frames.len());
+    match number {
+        2 => spoil_order(random, frames, line),
+        3 => {
+            let byte = random.pick(&[1, 2, 3, 4, 5, 7, 8]);
+            let (bits, width) = (sizes.bits as u8, sizes.width as u8);
+            let beyond = match byte {
+                1 => [0, 5, 255],
+                2 => [0, 17, 16 / sizes.motors as u8 + 1],
+                3 => [0, 13, 255],
+                4 => [3, 21, width - 1],
+                5 => [7, 33, bits + 1],
+                _ => [255, 2, 1],
+            };
+            frames[0][byte] = random.pick(&beyond);
+            let iterations = random.pick(&[0u16, 401, 65535]);
+            if byte > 6 {
+                frames[0][7..9].copy_from_slice(&iterations.to_be_bytes());
+            }
+        }
+        5 if line > 0 => {
+            let edges = edge_doubles(sizes.bits, sizes.width);
+            frames[line][3..].copy_from_slice(&random.pick(&edges).to_be_bytes());
+        }
+        _ => {}
+    }
+}
+
+/// Provokes 2: another kind, row or column, a byte of line 01 that should be 0, lines out of order.
+fn spoil_order(random: &mut Random, frames: &mut Vec<Frame>, line: usize) {
+    let other = random.below(frames.len());
+    match random.below(6) {
+        0 => frames.swap(line, other),
+        1 => frames.insert(line, frames[other]),
+        2 => drop(frames.remove(line)),
+        3 => frames[0][random.pick(&[0, 6, 9, 10])] = random.next() as u8,
+        _ => {
+            let byte = random.below(3);
+            let (old, other) = (frames[line][byte], random.next() as u8);
+            frames[line][byte] = random.pick(&[old.wrapping_add(1), old.wrapping_sub(1), other]);
+        }
+    }
+}
+
+/// Provokes 1 or 4 in the text.
+fn spoil_text(random: &mut Random, text: &mut Vec<u8>, number: Number) {
+    let lines = text.len() / LINE;
+    let at = random.below(text.len().max(1));
+    match number {
+        1 if text.is_empty() => {}
+        1 => match random.below(6) {
+            0 => text.truncate(at),
+            1 => drop(text.remove(at)),
+            2 => text.insert(at, random.pick(b"\r\n 0Fg\0")),
+            3 => text[at / LINE * LINE + LINE - 1] = random.pick(b"\r 0A\0"),
+            4 => drop(text.pop()),
+            _ => text[at] = random.pick(b"abfGg/:@`\r\n \0\xB0\xC1x-."),
+        },
+        4 if random.one_in(2) => text.truncate(LINE * random.below(lines + 1)),
+        4 => {
+            let line = text[text.len().saturating_sub(LINE)..].to_vec();
+            let tails: [&[u8]; 8] = [b"\n", b"\0", b"0", b"\r\n", b" ", &line, &line[..line.len() / 2], &[b'0'; 9000]];
+            text.extend(random.pick(&tails));
+        }
+        _ => {}
+    }
+}
+
+/// The files of a folder; None is a missing one.
+pub struct LabelCase {
+    pub drive: Option<Vec<u8>>,
+    pub state: Option<Vec<u8>>,
+}
+
+pub fn label_case(random: &mut Random, index: u64) -> LabelCase {
+    let plan = Plan::new(random, index, &LABEL_NUMBERS);
+    let (draft, drive) = sheet_case(random, &plan);
+    // A spoilt draft may have a state limit below 0, around which there is no state.
+    let limits: Vec<(i64, i64)> = state_limits(&draft).iter().map(|&(_, high)| (-high.abs(), high.abs())).collect();
+    let mut state = (hex(&words_within(random, &limits, plan.has(13))) + "\n").into_bytes();
+    if plan.has(13) && random.one_in(2) {
+        spoil_state_text(random, &mut state);
+    }
+    let missing = random.below(24);
+    LabelCase { drive: (missing != 0).then_some(drive), state: (missing != 1).then_some(state) }
+}
+
+fn spoil_state_text(random: &mut Random, text: &mut Vec<u8>) {
+    let at = random.below(text.len());
+    match random.below(6) {
+        0 => text.truncate(at),
+        1 => text.insert(at, random.pick(b"\r\n 0Fg")),
+        2 => drop(text.remove(at)),
+        3 => text.extend(random.pick(&[&b"\n"[..], b"0", b"00000000\n", b"\0", &[b'0'; 5000]])),
+        4 => *text = text.to_ascii_lowercase(),
+        _ => text[at] = random.pick(b"abfGg/:@`\r\n \0"),
+    }
+}

@@ -1,0 +1,193 @@
+//! Makes a call on guarded buffers, compares all that can be seen of it, and keeps the tally.
+
+use std::collections::{BTreeMap, BTreeSet};
+use std::fs::File;
+use std::os::unix::fs::FileExt;
+
+use crate::drive::{Call, Drive, Kind, Outcome, outcome};
+use crate::image::{HEADER_WORDS, Number, words};
+use crate::rules::Rules;
+use crate::sheet::hex;
+
+const GUARD: u8 = 0xA5;
+const GUARD_LEN: usize = 32;
+/// Failures printed in full; later ones are only counted.
+const PRINTED: u64 = 5;
+
+/// A buffer between guards, so that a write outside it is found.
+pub struct Lent {
+    memory: Vec<u8>,
+    from: usize,
+    to: usize,
+}
+
+impl Lent {
+    pub fn new(content: &[u8]) -> Lent {
+        // The odd shift keeps buffers off the alignment that a drive might wrongly count on.
+        let from = GUARD_LEN + content.len() % 7;
+        let to = from + content.len();
+        let mut memory = vec![GUARD; to + GUARD_LEN];
+        memory[from..to].copy_from_slice(content);
+        Lent { memory, from, to }
+    }
+
+    pub fn content(&self) -> &[u8] {
+        &self.memory[self.from..self.to]
+    }
+
+    pub fn content_mut(&mut self) -> &mut [u8] {
+        &mut self.memory[self.from..self.to]
+    }
+
+    /// What a drive that oversteps its buffer does.
+    pub fn write_beside(&mut self) {
+        self.memory[self.to] = 0;
+    }
+
+    pub fn guards_hold(&self) -> bool {
+        let (before, after) = (&self.memory[..self.from], &self.memory[self.to..]);
+        before.iter().chain(after).all(|&byte| byte == GUARD)
+    }
+}
+
+/// Bytes that no call answers by chance.
+fn untouched(length: usize) -> Vec<u8> {
+    (0..length).map(|i| (i * 37 + 0x5B) as u8).collect()
+}
+
+/// The call's outcome, or what it did to memory that was not its to write.
+fn observe(drive: &dyn Drive, call: &Call) -> Result<Outcome, String> {
+    let inputs: Vec<Lent> = call.inputs.iter().map(|input| Lent::new(input)).collect();
+    let before = untouched(call.out_len);
+    let mut out = Lent::new(&before);
+    let lent: Vec<&[u8]> = inputs.iter().map(Lent::content).collect();
+    let number = drive.call(call.kind, &call.numbers, &lent, out.content_mut());
+    let (_, names) = call.kind.arguments();
+    for ((lent, input), name) in inputs.iter().zip(&call.inputs).zip(names) {
+        if lent.content() != input || !lent.guards_hold() {
+            return Err(format!("number {number}, and wrote to or beside the lent {name}"));
+        }
+    }
+    if !out.guards_hold() {
+        return Err(format!("number {number}, and wrote beside the output buffer"));
+    }
+    let after = out.content();
+    Ok(Outcome { number, written: (after != before).then(|| after.to_vec()) })
+}
+
+pub struct Harness<'a> {
+    pub drive: &'a dyn Drive,
+    pub seed: u64,
+    pub passed: u64,
+    pub failed: u64,
+    /// Comparisons for each call and number.
+    pub met: BTreeMap<&'static str, [u64; 16]>,
+    /// The sizes, and the b and W, of accepted solves.
+    pub sizes: BTreeSet<Vec<i64>>,
+    pub formats: BTreeSet<Vec<i64>>,
+    /// The group and index under way; also in a file, for whoever finds the program crashed.
+    place: (&'static str, u64),
+    place_file: Option<File>,
+    quiet: bool,
+}
+
+impl<'a> Harness<'a> {
+    pub fn new(drive: &'a dyn Drive, seed: u64, place_file: Option<File>) -> Harness<'a> {
+        Harness {
+            drive,
+            seed,
+            passed: 0,
+            failed: 0,
+            met: BTreeMap::new(),
+            sizes: BTreeSet::new(),
+            formats: BTreeSet::new(),
+            place: ("", 0),
+            place_file,
+            quiet: false,
+        }
+    }
+
+    /// Counts failures without printing them: for drives that have to fail.
+    pub fn quiet(drive: &'a dyn Drive) -> Harness<'a> {
+        Harness { quiet: true, ..Harness::new(drive, 0, None) }
+    }
+
+    pub fn enter(&mut self, group: &'static str, index: u64) {
+        self.place = (group, index);
+        if let Some(file) = &self.place_file {
+            let line = format!("--seed {} --only {group}:{index:<20}\n", self.seed);
+            file.write_all_at(line.as_bytes(), 0).expect("the place file can be written");
+        }
+    }
+
+    /// Compares one call, and returns what document 01 expects of it.
+    pub fn compare(&mut self, call: &Call) -> Outcome {
+        let inputs: Vec<&[u8]> = call.inputs.iter().map(Vec::as_slice).collect();
+        let expected = outcome(call.kind, &call.numbers, &inputs, call.out_len, Rules::default());
+        let observed = observe(self.drive, call);
+        self.meet(call.kind.name(), expected.number);
+        if call.kind == Kind::Solve && expected.number == 0 {
+            let header = words(&call.inputs[0][..4 * HEADER_WORDS]);
+            self.sizes.insert(header[..3].to_vec());
+            self.formats.insert(header[3..5].to_vec());
+        }
+        let agrees = observed.as_ref() == Ok(&expected);
+        self.check(agrees, || describe(call, &expected, &observed));
+        expected
+    }
+
+    pub fn meet(&mut self, call: &'static str, number: Number) {
+        self.met.entry(call).or_insert([0; 16])[number as usize] += 1;
+    }
+
+    /// Counts one comparison; the description is asked for only when it fails.
+    pub fn check(&mut self, holds: bool, description: impl FnOnce() -> String) {
+        if holds {
+            self.passed += 1;
+            return;
+        }
+        self.failed += 1;
+        if self.quiet || self.failed > PRINTED {
+            return;
+        }
+        let (group, index) = self.place;
+        println!("FAILED {group}:{index}\n{}", description());
+        println!("  alone: compare/run --seed {} --only {group}:{index}\n", self.seed);
+        if self.failed == PRINTED {
+            println!("further failures are only counted\n");
+        }
+    }
+}
+
+fn describe(call: &Call, expected: &Outcome, observed: &Result<Outcome, String>) -> String {
+    let (number_names, input_names) = call.kind.arguments();
+    let mut text = format!("  call {}, output buffer of {} bytes\n", call.kind.name(), call.out_len);
+    for (name, number) in number_names.iter().zip(&call.numbers) {
+        text += &format!("  {name} {number} ({number:016X})\n");
+    }
+    for (name, input) in input_names.iter().zip(&call.inputs) {
+        text += &format!("  {name}, {} bytes\n{}", input.len(), show(name, input));
+    }
+    text += &format!("  expected {}\n", show_outcome(expected));
+    match observed {
+        Ok(outcome) => text + &format!("  answered {}", show_outcome(outcome)),
+        Err(fault) => text + &format!("  answered {fault}"),
+    }
+}
+
+fn show_outcome(outcome: &Outcome) -> String {
+    match &outcome.written {
+        Some(written) => format!("number {}, writing {}", outcome.number, hex(written)),
+        None => format!("number {}, buffer left", outcome.number),
+    }
+}
+
+/// A sheet as its text, any other buffer in words.
+fn show(name: &str, input: &[u8]) -> String {
+    if name == "sheet" {
+        let lines = input.split_inclusive(|&byte| byte == b'\n');
+        return lines.map(|line| format!("    {}\n", line.escape_ascii())).collect();
+    }
+    let line = |chunk: &[u8]| chunk.chunks(4).map(hex).collect::<Vec<String>>().join(" ");
+    input.chunks(64).map(|chunk| format!("    {}\n", line(chunk))).collect()
+}

@@ -1,0 +1,161 @@
+//! The second program: document 01 implemented on its own, beside the static library and the label program.
+
+mod big;
+mod cases;
+mod double;
+mod draft;
+mod drive;
+mod economies;
+mod generate;
+mod harness;
+mod image;
+mod label;
+mod random;
+mod rules;
+mod sheet;
+mod solve;
+mod trials;
+
+use std::fs::{File, create_dir_all};
+use std::path::PathBuf;
+use std::process::ExitCode;
+use std::time::Instant;
+
+use drive::Drive;
+use harness::Harness;
+use image::Number;
+
+const USAGE: &str = "compare [--seed N] [--count N | --long] [--only GROUP:INDEX] [--self] [--work FOLDER]
+compare --label acts as the label program in the current folder";
+/// Random solves of a run; the other groups are in proportion.
+const COUNT: u64 = 100_000;
+const LONG_COUNT: u64 = 20 * COUNT;
+/// From this count on a run has to have met every number of every call, and every size.
+const COVERING_COUNT: u64 = 20_000;
+
+struct Options {
+    seed: u64,
+    count: u64,
+    only: Option<(String, u64)>,
+    on_itself: bool,
+    work: PathBuf,
+}
+
+fn options() -> Result<Options, String> {
+    let mut options =
+        Options { seed: 1, count: COUNT, only: None, on_itself: false, work: PathBuf::from("target/compare") };
+    let mut arguments = std::env::args().skip(1);
+    while let Some(argument) = arguments.next() {
+        let mut value = || arguments.next().ok_or(format!("{argument} needs a value\n{USAGE}"));
+        let number = |text: &str| text.parse().map_err(|_| format!("not a number: {text}\n{USAGE}"));
+        match argument.as_str() {
+            "--seed" => options.seed = number(&value()?)?,
+            "--count" => options.count = number(&value()?)?,
+            "--long" => options.count = LONG_COUNT,
+            "--self" => options.on_itself = true,
+            "--work" => options.work = PathBuf::from(value()?),
+            "--only" => {
+                let text = value()?;
+                let (group, index) = text.split_once(':').ok_or(format!("not GROUP:INDEX: {text}"))?;
+                options.only = Some((group.to_string(), number(index)?));
+            }
+            _ => return Err(USAGE.to_string()),
+        }
+    }
+    Ok(options)
+}
+
+/// The drive under comparison, and whether it has the conversions that only tests need.
+fn drive(on_itself: bool) -> Result<(Box<dyn Drive>, bool), String> {
+    if on_itself {
+        println!("the reference is compared with itself: this says nothing about the library");
+        return Ok((Box::new(drive::Reference { rules: rules::Rules::default() }), true));
+    }
+    #[cfg(linked)]
+    return Ok((Box::new(drive::Linked), cfg!(probe)));
+    #[cfg(not(linked))]
+    Err("no library is linked: set GANTRY_LIB_DIR, or give --self to try this program on itself".to_string())
+}
+
+fn main() -> ExitCode {
+    if std::env::args().nth(1).as_deref() == Some("--label") {
+        label::act();
+        return ExitCode::SUCCESS;
+    }
+    match options().and_then(run) {
+        Ok(true) => ExitCode::SUCCESS,
+        Ok(false) => ExitCode::FAILURE,
+        Err(message) => {
+            eprintln!("{message}");
+            ExitCode::from(2)
+        }
+    }
+}
+
+fn run(options: Options) -> Result<bool, String> {
+    let (drive, has_conversions) = drive(options.on_itself)?;
+    println!("seed {}, count {}", options.seed, options.count);
+    create_dir_all(&options.work).map_err(|error| error.to_string())?;
+    let place_file = File::create(options.work.join("place")).map_err(|error| error.to_string())?;
+    let mut harness = Harness::new(&*drive, options.seed, Some(place_file));
+    let groups = trials::groups(options.count, has_conversions, &options.work);
+    match &options.only {
+        None => {
+            for group in &groups {
+                let begun = Instant::now();
+                (0..group.count).for_each(|index| trials::run(&mut harness, group, index));
+                println!("{}: {} trials, {:.1} s", group.name, group.count, begun.elapsed().as_secs_f64());
+            }
+        }
+        Some((name, index)) => {
+            let group = groups.iter().find(|group| group.name == name).ok_or(format!("no group {name}"))?;
+            trials::run(&mut harness, group, *index);
+        }
+    }
+    print_numbers(&harness);
+    if options.only.is_none() && options.count >= COVERING_COUNT {
+        require_cover(&mut harness);
+    }
+    println!("compare: {} passed, {} failed", harness.passed, harness.failed);
+    Ok(harness.failed == 0)
+}
+
+fn print_numbers(harness: &Harness) {
+    let row = |name: &str, cells: Vec<String>| {
+        let cells: String = cells.iter().map(|cell| format!("{cell:>8}")).collect();
+        println!("{name:<10}{cells}");
+    };
+    row("number", (0..16).map(|number| number.to_string()).collect());
+    for (call, numbers) in &harness.met {
+        let cell = |&count: &u64| {
+            if count == 0 { "-".to_string() } else { count.to_string() }
+        };
+        row(call, numbers.iter().map(cell).collect());
+    }
+}
+
+/// A number that a call can answer and never did was not compared.
+fn require_cover(harness: &mut Harness) {
+    harness.enter("cover", 0);
+    let conversions: [Number; 1] = [5];
+    let can: [(&str, &[Number]); 7] = [
+        ("intake", &generate::INTAKE_NUMBERS),
+        ("cold_start", &generate::COLD_START_NUMBERS),
+        ("solve", &generate::SOLVE_NUMBERS),
+        ("label", &generate::LABEL_NUMBERS),
+        ("to_word", &conversions),
+        ("inward", &conversions),
+        ("to_double", &[3, 5]),
+    ];
+    for (call, numbers) in can {
+        let Some(met) = harness.met.get(call).copied() else {
+            continue;
+        };
+        for &number in [0].iter().chain(numbers) {
+            harness.check(met[number as usize] > 0, || format!("  {call} never answered {number}"));
+        }
+    }
+    let (sizes, formats) = (harness.sizes.len(), harness.formats.len());
+    println!("accepted solves: {sizes} of 396 sizes, {formats} of 320 pairs of b and W");
+    harness.check((sizes, formats) == (396, 320), || "  some sizes were never solved".to_string());
+}

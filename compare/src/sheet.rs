@@ -1,0 +1,87 @@
+//! The design sheet: its lines, the checks 1 to 5, and the accepted sheet's image.
+
+use crate::double::{Rounding, to_word};
+use crate::image::{LOW, Number, Problem, STATE_LIMIT, Section, Sizes, bytes};
+use crate::rules::Rules;
+
+pub const FRAME: usize = 11;
+pub const LINE: usize = 2 * FRAME + 1;
+
+/// Kind, row, column and the eight value bytes.
+pub type Frame = [u8; FRAME];
+
+pub fn digit(byte: u8) -> Option<u8> {
+    match byte {
+        b'0'..=b'9' => Some(byte - b'0'),
+        b'A'..=b'F' => Some(byte - b'A' + 10),
+        _ => None,
+    }
+}
+
+/// Pairs of digits to bytes; None for any other byte.
+pub fn unhex(digits: &[u8]) -> Option<Vec<u8>> {
+    digits.chunks_exact(2).map(|pair| Some(digit(pair[0])? << 4 | digit(pair[1])?)).collect()
+}
+
+pub fn hex(bytes: &[u8]) -> String {
+    let digit = |value: u8| b"0123456789ABCDEF"[value as usize] as char;
+    bytes.iter().flat_map(|byte| [digit(byte >> 4), digit(byte & 15)]).collect()
+}
+
+/// Takes the next line off the text. Nothing left is 4, a line that is cut or malformed is 1.
+fn next_frame(text: &mut &[u8]) -> Result<Frame, Number> {
+    if text.is_empty() {
+        return Err(4);
+    }
+    if text.len() < LINE || text[LINE - 1] != b'\n' {
+        return Err(1);
+    }
+    let frame = unhex(&text[..LINE - 1]).ok_or(1u32)?;
+    *text = &text[LINE..];
+    Ok(frame.try_into().unwrap())
+}
+
+/// Line 01. Its 0 bytes are 2, its sizes 3.
+fn sizes(frame: &Frame) -> Result<Sizes, Number> {
+    let &[1, motors, steps, states, bits, width, 0, high, low, 0, 0] = frame else {
+        return Err(2);
+    };
+    let [motors, steps, states, bits, width] = [motors, steps, states, bits, width].map(i64::from);
+    let iterations = i64::from(u16::from_be_bytes([high, low]));
+    Sizes::of_words(&[motors, steps, states, bits, width, iterations, 0, 0]).ok_or(3)
+}
+
+/// The sheet's sizes and body words, before the checks of the tables.
+pub fn read(mut text: &[u8], rules: Rules) -> Result<(Sizes, Vec<i64>), Number> {
+    let sizes = sizes(&next_frame(&mut text)?)?;
+    let mut body = Vec::new();
+    for (section, row, column) in sizes.places() {
+        let frame = next_frame(&mut text)?;
+        if frame[..3] != [section.kind, row as u8, column as u8] {
+            return Err(2);
+        }
+        let double = u64::from_be_bytes(frame[3..].try_into().unwrap());
+        body.push(word(&sizes, &section, double, rules).ok_or(5u32)?);
+    }
+    if text.is_empty() { Ok((sizes, body)) } else { Err(4) }
+}
+
+fn word(sizes: &Sizes, section: &Section, double: u64, rules: Rules) -> Option<i64> {
+    let economy = rules.round_low_limit_down && section.kind == LOW;
+    let rounding = if economy { Rounding::Down } else { section.rounding };
+    let word = to_word(double, sizes.bits, sizes.width, rounding)?;
+    (section.kind != STATE_LIMIT || word >= 0).then_some(word)
+}
+
+/// The sheet's image, unless a check up to 12 refuses it.
+pub fn image(text: &[u8], rules: Rules) -> Result<Vec<u8>, Number> {
+    let (sizes, body) = read(text, rules)?;
+    Problem::new(sizes, &body).check()?;
+    Ok(bytes(&[&sizes.words(), &body[..]].concat()))
+}
+
+/// The exported intake.
+pub fn intake_call(text: &[u8], out_len: usize, rules: Rules) -> Result<Vec<u8>, Number> {
+    let image = image(text, rules)?;
+    if image.len() == out_len { Ok(image) } else { Err(15) }
+}

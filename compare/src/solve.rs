@@ -1,0 +1,191 @@
+//! One solve: the rounded scheme, its error bound, and the exact scheme beside them.
+
+use crate::big::Big;
+use crate::image::{Number, Problem, bytes, open, words};
+use crate::rules::Rules;
+
+/// The rounded scheme. Sums are exact, so the order in which document 01 takes them is left to the drive.
+pub struct Rounded<'a> {
+    problem: &'a Problem,
+    rules: Rules,
+    /// h.
+    pub linear: Vec<i64>,
+    pub t: Vec<i64>,
+    pub z: Vec<i64>,
+    pub y: Vec<i64>,
+}
+
+impl<'a> Rounded<'a> {
+    pub fn new(problem: &'a Problem, inputs: &[i64], start: &[i64], rules: Rules) -> Rounded<'a> {
+        let mut scheme =
+            Rounded { problem, rules, linear: Vec::new(), t: start.to_vec(), z: start.to_vec(), y: start.to_vec() };
+        scheme.linear = problem.gains.iter().map(|row| scheme.terms(row, inputs).sum()).collect();
+        scheme
+    }
+
+    /// A product of two words over 2^b, rounded toward minus infinity.
+    pub fn product(&self, a: i64, b: i64) -> i64 {
+        if self.rules.round_toward_zero { a * b / self.problem.sizes.one() } else { (a * b) >> self.problem.sizes.bits }
+    }
+
+    pub fn terms<'b>(&'b self, row: &'b [i64], vector: &'b [i64]) -> impl Iterator<Item = i64> + 'b {
+        row.iter().zip(vector).map(|(&a, &b)| self.product(a, b))
+    }
+
+    pub fn step(&mut self) {
+        let problem = self.problem;
+        let (one, momentum) = (problem.sizes.one(), problem.momentum);
+        let rows = problem.descent.iter().zip(&self.linear);
+        self.t = rows.map(|(row, linear)| self.terms(row, &self.y).sum::<i64>() - linear).collect();
+        for k in 0..self.z.len() {
+            let old = self.z[k];
+            self.z[k] = self.t[k].clamp(problem.lower[k], problem.upper[k]);
+            let new = if self.rules.momentum_from_unclamped { self.t[k] } else { self.z[k] };
+            self.y[k] = self.product(one + momentum, new) - self.product(momentum, old);
+        }
+    }
+}
+
+/// The error bound's recurrence, in counts.
+pub struct ErrorBound<'a> {
+    problem: &'a Problem,
+    rules: Rules,
+    pub e: Vec<i64>,
+    previous: Vec<i64>,
+    /// q.
+    point: Vec<i64>,
+}
+
+impl<'a> ErrorBound<'a> {
+    pub fn new(problem: &'a Problem, rules: Rules) -> ErrorBound<'a> {
+        let zeros = vec![0; problem.lower.len()];
+        let first = vec![i64::from(rules.first_q_is_one); problem.lower.len()];
+        ErrorBound { problem, rules, e: zeros.clone(), previous: zeros, point: first }
+    }
+
+    fn up(&self, product: i64) -> i64 {
+        -(-product >> self.problem.sizes.bits)
+    }
+
+    pub fn step(&mut self) {
+        let problem = self.problem;
+        let rounding = problem.lower.len().max(problem.input_limits.len()) as i64;
+        let bound = |k: usize| {
+            let sum = problem.descent[k].iter().zip(&self.point).map(|(m, q)| m.abs() * q).sum();
+            // What the answer's word can hold is all that is left without w.
+            let most = if self.rules.width_left_out { u32::MAX as i64 } else { problem.width(k) };
+            most.min(self.up(sum) + rounding)
+        };
+        let new = (0..self.e.len()).map(bound).collect();
+        self.previous = std::mem::replace(&mut self.e, new);
+        let point = |(&e, &previous)| e + self.up(problem.momentum * (e + previous)) + 1;
+        self.point = self.e.iter().zip(&self.previous).map(point).collect();
+    }
+}
+
+/// The exact scheme, in document 01's L, Z and V.
+pub struct Exact<'a> {
+    problem: &'a Problem,
+    /// G.
+    linear: Vec<i64>,
+    pub scale: Big,
+    pub commands: Vec<Big>,
+    point: Vec<Big>,
+}
+
+impl<'a> Exact<'a> {
+    pub fn new(problem: &'a Problem, inputs: &[i64], start: &[i64]) -> Exact<'a> {
+        let sum = |row: &Vec<i64>| row.iter().zip(inputs).map(|(a, b)| a * b).sum();
+        Exact {
+            problem,
+            linear: problem.gains.iter().map(sum).collect(),
+            scale: Big::new(1),
+            commands: start.iter().map(|&z| Big::new(z)).collect(),
+            point: start.iter().map(|&z| Big::new(z).times(problem.sizes.one())).collect(),
+        }
+    }
+
+    pub fn step(&mut self) {
+        let (problem, one) = (self.problem, self.problem.sizes.one());
+        let scale = self.scale.times(one * one);
+        let linear_scale = self.scale.times(one);
+        let command = |k: usize| {
+            let mut t = Big::new(0);
+            for (v, &m) in self.point.iter().zip(&problem.descent[k]) {
+                t.add_product(v, m);
+            }
+            t.add_product(&linear_scale, -self.linear[k]);
+            t.clamp(scale.times(problem.lower[k]), scale.times(problem.upper[k]))
+        };
+        let commands: Vec<Big> = (0..self.commands.len()).map(command).collect();
+        let point = |(new, old): (&Big, &Big)| {
+            let mut v = new.times(one + problem.momentum);
+            v.add_product(old, -problem.momentum * one * one);
+            v
+        };
+        self.point = commands.iter().zip(&self.commands).map(point).collect();
+        self.commands = commands;
+        self.scale = scale;
+    }
+
+    /// Is the command z within its bound e of this scheme's? |z × L − Z| ≤ e × L.
+    pub fn is_near(&self, k: usize, z: i64, e: i64) -> bool {
+        let difference = self.scale.times(z).minus(&self.commands[k]);
+        difference.magnitude().at_most(&self.scale.times(e))
+    }
+}
+
+pub fn cold_start(problem: &Problem) -> Vec<i64> {
+    let limits = problem.lower.iter().zip(&problem.upper);
+    limits.map(|(&lower, &upper)| 0.clamp(lower, upper)).collect()
+}
+
+/// The commands, then the bounds.
+pub fn answer(problem: &Problem, inputs: &[i64], start: &[i64], rules: Rules) -> (Vec<i64>, Vec<i64>) {
+    let mut scheme = Rounded::new(problem, inputs, start, rules);
+    let mut bound = ErrorBound::new(problem, rules);
+    for _ in 0..problem.sizes.iterations {
+        scheme.step();
+        bound.step();
+    }
+    (scheme.z, bound.e)
+}
+
+/// Number 13: the state is nx words within their limits.
+pub fn read_inputs(problem: &Problem, state: &[u8]) -> Result<Vec<i64>, Number> {
+    let limits: Vec<(i64, i64)> = problem.input_limits.iter().map(|&limit| (-limit, limit)).collect();
+    read_within(state, &limits).ok_or(13)
+}
+
+/// Number 14: the start is n words within the commands' limits.
+pub fn read_start(problem: &Problem, start: &[u8]) -> Result<Vec<i64>, Number> {
+    let limits: Vec<(i64, i64)> = problem.lower.iter().copied().zip(problem.upper.iter().copied()).collect();
+    read_within(start, &limits).ok_or(14)
+}
+
+fn read_within(bytes: &[u8], limits: &[(i64, i64)]) -> Option<Vec<i64>> {
+    if bytes.len() != 4 * limits.len() {
+        return None;
+    }
+    let values = words(bytes);
+    let within = values.iter().zip(limits).all(|(&value, &(low, high))| (low..=high).contains(&value));
+    within.then_some(values)
+}
+
+/// The exported cold start.
+pub fn cold_start_call(image: &[u8], out_len: usize) -> Result<Vec<u8>, Number> {
+    let start = bytes(&cold_start(&open(image)?));
+    if start.len() == out_len { Ok(start) } else { Err(15) }
+}
+
+/// The exported solve.
+pub fn solve_call(image: &[u8], state: &[u8], start: &[u8], out_len: usize, rules: Rules) -> Result<Vec<u8>, Number> {
+    let problem = open(image)?;
+    let inputs = read_inputs(&problem, state)?;
+    let start = read_start(&problem, start)?;
+    if out_len != 8 * start.len() {
+        return Err(15);
+    }
+    let (commands, bounds) = answer(&problem, &inputs, &start, rules);
+    Ok([bytes(&commands), bytes(&bounds)].concat())
+}

@@ -1,0 +1,326 @@
+//! The groups of trials. A trial draws from its own random stream, so that any one can be run alone.
+
+use std::ffi::OsStr;
+use std::fs::{canonicalize, create_dir_all};
+use std::path::Path;
+
+use crate::big::Big;
+use crate::cases;
+use crate::double::{self, Rounding};
+use crate::draft::Draft;
+use crate::drive::{Call, Kind};
+use crate::economies;
+use crate::generate::{self, Plan, SolveCase};
+use crate::harness::{Harness, Lent};
+use crate::image::{Problem, bytes, sizes_of_word_fit, top, words};
+use crate::label;
+use crate::random::Random;
+use crate::rules::Rules;
+use crate::solve::{ErrorBound, Exact, Rounded};
+
+type Trial = Box<dyn Fn(&mut Harness, u64, &mut Random)>;
+
+pub struct Group {
+    pub name: &'static str,
+    pub count: u64,
+    trial: Trial,
+}
+
+pub fn run(harness: &mut Harness, group: &Group, index: u64) {
+    harness.enter(group.name, index);
+    (group.trial)(harness, index, &mut Random::of_case(harness.seed, group.name, index));
+}
+
+pub fn groups(count: u64, has_conversions: bool, work: &Path) -> Vec<Group> {
+    let group = |name, count, trial: fn(&mut Harness, u64, &mut Random)| Group { name, count, trial: Box::new(trial) };
+    let mut groups = vec![
+        group("itself", 1, itself),
+        group("cases", cases::table().len() as u64, |harness, index, _| {
+            cases::run(harness, &cases::table()[index as usize]);
+        }),
+        group("economies", economies::count(), |harness, index, _| economies::run(harness, index)),
+        group("damage", damaged_bytes(), damage),
+        group("solve", count, solve),
+        group("cold_start", count / 4, cold_start),
+        group("intake", count, intake),
+        group("demand3", count / 25, demand3),
+    ];
+    if has_conversions {
+        let formats = formats().len() as u64;
+        groups.push(group("to_word", formats, to_word));
+        groups.push(group("inward", formats, inward));
+        groups.push(group("to_double", wide_formats().len() as u64, to_double));
+    } else {
+        println!("skipped: the conversions by themselves, since there is no libprobe.a");
+    }
+    match std::env::var_os("GANTRY_LABEL") {
+        Some(program) => groups.push(label_group(count / 100, &program, work)),
+        None => println!("skipped: the label program, since GANTRY_LABEL is not set"),
+    }
+    groups
+}
+
+fn label_group(count: u64, program: &OsStr, work: &Path) -> Group {
+    let program = canonicalize(program).expect("GANTRY_LABEL is a program");
+    let folder = work.join("label");
+    create_dir_all(&folder).expect("the folder can be made");
+    let trial = move |harness: &mut Harness, index: u64, random: &mut Random| {
+        label::run(harness, &program, &folder, index, random);
+    };
+    Group { name: "label", count, trial: Box::new(trial) }
+}
+
+fn solve(harness: &mut Harness, index: u64, random: &mut Random) {
+    let plan = Plan::new(random, index, &generate::SOLVE_NUMBERS);
+    let SolveCase { draft, image, state, start } = generate::solve_case(random, &plan);
+    let out_len = generate::out_len(random, &plan, 8 * draft.sizes.commands());
+    harness.compare(&Call::on_buffers(Kind::Solve, &[&image, &state, &start], out_len));
+}
+
+fn cold_start(harness: &mut Harness, index: u64, random: &mut Random) {
+    let plan = Plan::new(random, index, &generate::COLD_START_NUMBERS);
+    let case = generate::solve_case(random, &plan);
+    let out_len = generate::out_len(random, &plan, 4 * case.draft.sizes.commands());
+    harness.compare(&Call::on_buffers(Kind::ColdStart, &[&case.image], out_len));
+}
+
+fn intake(harness: &mut Harness, index: u64, random: &mut Random) {
+    let plan = Plan::new(random, index, &generate::INTAKE_NUMBERS);
+    let (draft, sheet) = generate::sheet_case(random, &plan);
+    let image = draft.image();
+    let out_len = generate::out_len(random, &plan, image.len());
+    let outcome = harness.compare(&Call::on_buffers(Kind::Intake, &[&sheet], out_len));
+    if plan.is_nothing() {
+        let holds = outcome.written == Some(image);
+        harness.check(holds, || "  the sheet of an accepted problem does not give its image".to_string());
+    }
+}
+
+/// Two small problems, whose bytes are damaged one by one.
+fn victims() -> [Draft; 2] {
+    [cases::sample(), cases::two_motors()]
+}
+
+fn damaged_bytes() -> u64 {
+    victims().iter().map(|draft| (draft.sheet().len() + draft.image().len()) as u64).sum()
+}
+
+/// Every other value of one byte of a sheet or an image, and the text or image cut there.
+fn damage(harness: &mut Harness, index: u64, _: &mut Random) {
+    let mut index = index as usize;
+    for draft in victims() {
+        let (sheet, image, n) = (draft.sheet(), draft.image(), draft.sizes.commands());
+        if index < sheet.len() {
+            for sheet in damaged(&sheet, index) {
+                harness.compare(&Call::on_buffers(Kind::Intake, &[&sheet], image.len()));
+            }
+            return;
+        }
+        index -= sheet.len();
+        if index < image.len() {
+            let (state, start) = (bytes(&vec![0; draft.sizes.states]), bytes(&vec![0; n]));
+            for image in damaged(&image, index) {
+                harness.compare(&Call::on_buffers(Kind::ColdStart, &[&image], 4 * n));
+                harness.compare(&Call::on_buffers(Kind::Solve, &[&image, &state, &start], 8 * n));
+            }
+            return;
+        }
+        index -= image.len();
+    }
+}
+
+fn damaged(buffer: &[u8], index: usize) -> Vec<Vec<u8>> {
+    let with = |value| [&buffer[..index], &[value], &buffer[index + 1..]].concat();
+    (0..=255).map(with).chain([buffer[..index].to_vec()]).collect()
+}
+
+/// Demand 3 tried: every sweep beside the exact scheme, and the drive's answers for fewer sweeps.
+fn demand3(harness: &mut Harness, index: u64, random: &mut Random) {
+    let SolveCase { mut draft, state, start, .. } = generate::solve_case(random, &Plan::nothing());
+    if index.is_multiple_of(50) {
+        draft.sizes.iterations = 400;
+    }
+    let (problem, iterations) = (draft.problem(), draft.sizes.iterations);
+    let (inputs, start_words) = (words(&state), words(&start));
+    let mut rounded = Rounded::new(&problem, &inputs, &start_words, Rules::default());
+    let mut bound = ErrorBound::new(&problem, Rules::default());
+    let mut exact = Exact::new(&problem, &inputs, &start_words);
+    let mut holds = linear_in_range(&problem, &rounded, &inputs) && iterates_in_range(&problem, &rounded);
+    for iteration in 1..=iterations {
+        holds &= products_in_range(&problem, &rounded);
+        rounded.step();
+        bound.step();
+        exact.step();
+        holds &= iterates_in_range(&problem, &rounded) && is_near(&rounded, &bound, &exact);
+        harness.check(holds, || format!("  demand 3 fails in sweep {iteration} of image {:?}", draft.body));
+        // All prefixes of a short run, some of a long one.
+        if iteration <= 8 || iteration == iterations || random.one_in(iterations / 8 + 1) {
+            let image = draft.clone().iterations(iteration).image();
+            let call = Call::on_buffers(Kind::Solve, &[&image, &state, &start], 8 * start_words.len());
+            let outcome = harness.compare(&call);
+            let prefix = Some([bytes(&rounded.z), bytes(&bound.e)].concat());
+            harness.check(outcome.written == prefix, || format!("  no prefix: {iteration} sweeps"));
+        }
+    }
+}
+
+fn in_word(problem: &Problem, value: i64) -> bool {
+    value.abs() <= problem.sizes.top()
+}
+
+/// Are all sums of neighbouring terms within the word? Each is a difference of two sums from the first term on.
+fn sums_in_range(problem: &Problem, terms: impl Iterator<Item = i64>) -> bool {
+    let (mut sum, mut least, mut largest) = (0i64, 0, 0);
+    for term in terms {
+        sum += term;
+        least = least.min(sum);
+        largest = largest.max(sum);
+    }
+    in_word(problem, largest - least)
+}
+
+fn linear_in_range(problem: &Problem, rounded: &Rounded, inputs: &[i64]) -> bool {
+    problem.gains.iter().all(|row| sums_in_range(problem, rounded.terms(row, inputs)))
+}
+
+/// The products of a sweep about to be made.
+fn products_in_range(problem: &Problem, rounded: &Rounded) -> bool {
+    let old = |&z: &i64| in_word(problem, rounded.product(problem.momentum, z));
+    problem.descent.iter().all(|row| sums_in_range(problem, rounded.terms(row, &rounded.y)))
+        && rounded.z.iter().all(old)
+}
+
+/// The iterates that a sweep left, with the product of its new commands.
+fn iterates_in_range(problem: &Problem, rounded: &Rounded) -> bool {
+    let factor = problem.sizes.one() + problem.momentum;
+    (0..rounded.z.len()).all(|k| {
+        let (t, z, y) = (rounded.t[k], rounded.z[k], rounded.y[k]);
+        let values = [t, z, y, rounded.product(factor, z)];
+        (problem.lower[k]..=problem.upper[k]).contains(&z) && values.iter().all(|&value| in_word(problem, value))
+    })
+}
+
+fn is_near(rounded: &Rounded, bound: &ErrorBound, exact: &Exact) -> bool {
+    (0..rounded.z.len()).all(|k| exact.is_near(k, rounded.z[k], bound.e[k]))
+}
+
+/// All b and W that fit each other.
+fn formats() -> Vec<(u32, u32)> {
+    let pairs = (4..=20).flat_map(|b| (8..=32).map(move |w| (b, w)));
+    pairs.filter(|&(b, w)| sizes_of_word_fit(b as i64, w as i64)).collect()
+}
+
+/// Those and many that do not.
+fn wide_formats() -> Vec<(u32, u32)> {
+    let with_extremes = |most: u32| (0..=most).chain([255, 256 + 4, 1 << 31, u32::MAX]);
+    with_extremes(24).flat_map(|b| with_extremes(36).map(move |w| (b, w))).collect()
+}
+
+/// A double of any bits, or one near a word.
+fn any_double(random: &mut Random, b: u32, w: u32) -> u64 {
+    let bits = random.next();
+    let (b, w) = (b as i64, w as i64);
+    let exponent = (1023 + random.between(-b - 4, w - b + 2)) as u64;
+    random.pick(&[bits, bits & !(0x7FF << 52) | exponent << 52])
+}
+
+fn doubles(random: &mut Random, b: u32, w: u32) -> Vec<u64> {
+    let mut doubles = generate::edge_doubles(b, w);
+    doubles.extend((0..200).map(|_| any_double(random, b, w)));
+    doubles
+}
+
+fn to_word(harness: &mut Harness, index: u64, random: &mut Random) {
+    let (b, w) = formats()[index as usize];
+    for bits in doubles(random, b, w) {
+        for up in 0..2 {
+            harness.compare(&Call::on_numbers(Kind::ToWord, &[bits, b as u64, w as u64, up]));
+        }
+    }
+}
+
+fn inward(harness: &mut Harness, index: u64, random: &mut Random) {
+    let (b, w) = formats()[index as usize];
+    let doubles = doubles(random, b, w);
+    for &low in &doubles {
+        let high = random.pick(&doubles);
+        harness.compare(&Call::on_numbers(Kind::Inward, &[low, high, b as u64, w as u64]));
+    }
+}
+
+fn to_double(harness: &mut Harness, index: u64, random: &mut Random) {
+    let (b, w) = wide_formats()[index as usize];
+    let top = top(w.clamp(8, 32));
+    let mut values = vec![0, i64::MIN, i64::MAX, 1 << 32, -1 << 32, (1 << 32) + 1];
+    for value in [1, top - 1, top, top + 1, 2 * top + 1, (1 << 31) - 1, 1 << 31] {
+        values.extend([value, -value]);
+    }
+    values.extend((0..40).map(|_| random.magnitude(top) * random.sign()));
+    for value in values {
+        harness.compare(&Call::on_numbers(Kind::ToDouble, &[value as u64, b as u64, w as u64]));
+    }
+}
+
+/// This program's own parts, where a fault could hide one of the drive.
+fn itself(harness: &mut Harness, _: u64, random: &mut Random) {
+    big_agrees(harness, random);
+    conversions_agree(harness, random);
+    sample_agrees(harness);
+    let problem = cases::sample().problem();
+    let holds =
+        sums_in_range(&problem, [100, 27, -127].into_iter()) && !sums_in_range(&problem, [-100, 100, 28].into_iter());
+    harness.check(holds, || "  the test of running sums does not tell them apart".to_string());
+    let mut lent = Lent::new(&[1, 2, 3]);
+    harness.check(lent.guards_hold(), || "  a guard does not hold by itself".to_string());
+    lent.write_beside();
+    harness.check(!lent.guards_hold(), || "  a write beside a buffer is not found".to_string());
+}
+
+/// Big numbers beside 128-bit ones.
+fn big_agrees(harness: &mut Harness, random: &mut Random) {
+    for _ in 0..1000 {
+        let [a, b, c, d] = [0; 4].map(|_| random.magnitude(1 << 41) * random.sign());
+        let mut sum = Big::new(a).times(b);
+        sum.add_product(&Big::new(c), d);
+        let whole = a as i128 * b as i128 + c as i128 * d as i128;
+        let (high, low) = ((whole >> 62) as i64, (whole & ((1 << 62) - 1)) as i64);
+        let mut expected = Big::new(high).times(1 << 62);
+        expected.add_product(&Big::new(low), 1);
+        let holds = sum == expected && sum.is_negative() == (whole < 0) && !sum.magnitude().is_negative();
+        harness.check(holds, || format!("  big numbers: {a} × {b} + {c} × {d} is {sum:?}"));
+    }
+}
+
+/// Conversions by whole numbers beside the floating-point ones.
+fn conversions_agree(harness: &mut Harness, random: &mut Random) {
+    for (b, w) in formats() {
+        for bits in doubles(random, b, w) {
+            let scaled = f64::from_bits(bits) * (1u64 << b) as f64;
+            for (rounding, rounded) in [(Rounding::Down, scaled.floor()), (Rounding::Up, scaled.ceil())] {
+                let word = (rounded.abs() <= top(w) as f64).then_some(rounded as i64);
+                let found = double::to_word(bits, b, w, rounding);
+                harness.check(found == word, || format!("  {bits:016X} at b {b}, W {w} is {found:?}"));
+            }
+        }
+        for value in [0, 1, -1, top(w), -top(w), random.magnitude(top(w))] {
+            let double = (value as f64 / (1u64 << b) as f64).to_bits();
+            let found = double::of_word(value, b, w);
+            harness.check(found == Ok(double), || format!("  {value} at b {b}, W {w} is {found:?}"));
+        }
+    }
+}
+
+/// S: its text, its label, and −17.5 after three exact sweeps, which a bound of 0 does not cover.
+fn sample_agrees(harness: &mut Harness) {
+    let sample = cases::sample();
+    harness.check(sample.sheet() == cases::SAMPLE.as_bytes(), || "  S is not document 01's".to_string());
+    let label = label::expected(cases::SAMPLE.as_bytes(), b"0000000A\n").1;
+    harness.check(label == "FFFFFFEE 00000003\n", || format!("  S prints {label:?}"));
+    let problem = sample.problem();
+    let mut exact = Exact::new(&problem, &[10], &[0]);
+    (0..3).for_each(|_| exact.step());
+    let holds = exact.commands[0].times(2) == exact.scale.times(-35);
+    harness.check(holds, || "  S does not reach -17.5".to_string());
+    let holds = exact.is_near(0, -18, 1) && !exact.is_near(0, -18, 0) && !exact.is_near(0, -19, 1);
+    harness.check(holds, || "  the bound's test does not tell near from far".to_string());
+}
