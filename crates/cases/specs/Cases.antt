@@ -1,0 +1,81 @@
+-- Document 01, "Cases at the edges": "the starred cases together form one table". Each line is one case; `holds` says what is computed
+-- of it, over the definitions that the calls' promises cite. Assumes nothing.
+use mathlib.Core.Bool.{Bool, true, false, not, _&&_}
+use mathlib.Core.List.{List, [], _∷_, _++_, map}
+use Prim.Native.Nat.{ℕ}
+use lib.Dec.{eqb, leb}
+use lib.IntN.{ℤ, pos, negsuc}
+use lib.Ieee.{Float, binary64, ofBits}
+use lib.Signed.{leZ}
+use Rattle.word.specs.Word.{wordsOut}
+use Rattle.double.specs.Double.{conversionNumber, rounded, roundUp, roundDown}
+use Rattle.gradient.specs.Demand.{every2}
+use Rattle.image.specs.Tables.{eqZ, imageNumber}
+use Rattle.image.specs.Calls.{coldAnswer, solveNumber, commandsAfter, boundsAfter}
+
+-- a case, and what the document says of it
+pub data Case : Type 0 where
+  -- an image, a state, sweeps s: from the cold start, the command and the bound after s
+  solves : List ℕ → ℤ → ℕ → ℤ → ℕ → Case
+  -- an image has a number
+  numbers : List ℕ → ℕ → Case
+  -- an image does not have a number
+  passes : List ℕ → ℕ → Case
+  -- a solve on an image from its cold start with a state has a number
+  answers : List ℕ → ℤ → ℕ → Case
+  -- a double (its bits) becomes a word by a rule
+  converts : (ℤ → ℕ → ℤ) → ℕ → ℤ → Case
+
+unfoldable pub holds : Case → Bool
+holds (solves image x s z e) =
+    every2 eqZ (commandsAfter image (wordsOut (x ∷ [])) (coldAnswer image) s) (z ∷ []) && every2 eqb (boundsAfter image s) (e ∷ [])
+holds (numbers image n) = eqb (imageNumber image) n
+holds (passes image n) = not (eqb (imageNumber image) n)
+holds (answers image x n) = eqb (solveNumber image (wordsOut (x ∷ [])) (coldAnswer image) 8) n
+holds (converts rule bits z) = eqb (conversionNumber rule 4 8 (ofBits binary64 bits)) 0 && eqZ (rounded rule 4 (ofBits binary64 bits)) z
+
+-- ---- the images: "all have b 4, W 8"
+-- S with a step factor, limits −l and l, a state limit
+unfoldable pub S : ℕ → ℕ → ℕ → List ℕ
+S beta l bound =
+    wordsOut (map pos (1 ∷ 1 ∷ 1 ∷ 4 ∷ 8 ∷ 3 ∷ 0 ∷ 0 ∷ 8 ∷ 16 ∷ []) ++ (lib.IntN.negℤ (pos l) ∷ map pos (l ∷ beta ∷ bound ∷ [])))
+
+-- one motor, two steps, and H with rows (d, o), (o, d); otherwise S's values
+unfoldable pub two : ℕ → ℕ → ℕ → List ℕ
+two d o beta =
+    wordsOut (map pos (1 ∷ 2 ∷ 1 ∷ 4 ∷ 8 ∷ 3 ∷ 0 ∷ 0 ∷ d ∷ o ∷ o ∷ d ∷ 16 ∷ 16 ∷ []) ++ (negsuc 19 ∷ map pos (20 ∷ beta ∷ 10 ∷ [])))
+
+-- ---- the table
+unfoldable pub table : List Case
+table =
+    -- S, sweeps 1 to 5
+    solves (S 0 20 10) (pos 10) 1 (negsuc 9) 1
+    ∷ solves (S 0 20 10) (pos 10) 2 (negsuc 14) 2
+    ∷ solves (S 0 20 10) (pos 10) 3 (negsuc 17) 3
+    ∷ solves (S 0 20 10) (pos 10) 4 (negsuc 18) 3
+    ∷ solves (S 0 20 10) (pos 10) 5 (negsuc 19) 3
+    -- S with β 8 counts, sweeps 1 to 4
+    ∷ solves (S 8 20 10) (pos 10) 1 (negsuc 9) 1
+    ∷ solves (S 8 20 10) (pos 10) 2 (negsuc 17) 3
+    ∷ solves (S 8 20 10) (pos 10) 3 (negsuc 19) 4
+    ∷ solves (S 8 20 10) (pos 10) 4 (negsuc 19) 6
+    -- S with limits −1 and 1 counts, sweeps 1 to 3
+    ∷ solves (S 0 1 10) (pos 10) 1 (negsuc 0) 1
+    ∷ solves (S 0 1 10) (pos 10) 2 (negsuc 0) 2
+    ∷ solves (S 0 1 10) (pos 10) 3 (negsuc 0) 2
+    -- S with state limit 117 counts is accepted, with 118 refused 12
+    ∷ numbers (S 0 20 117) 0
+    ∷ numbers (S 0 20 118) 12
+    -- H rows (8,8),(8,8): 9. (9,8),(8,9): 10. (8,7),(7,8): β 9 is 11, β 10 passes 11
+    ∷ numbers (two 8 8 0) 9
+    ∷ numbers (two 9 8 0) 10
+    ∷ numbers (two 8 7 9) 11
+    ∷ passes (two 8 7 10) 11
+    -- double 0.03125 as low limit is 1, as high limit 0; −0.03125 in Φ is −1
+    ∷ converts roundUp 0x3FA0000000000000 (pos 1)
+    ∷ converts roundDown 0x3FA0000000000000 (pos 0)
+    ∷ converts roundDown 0xBFA0000000000000 (negsuc 0)
+    -- state 10 passes 13 in S, 11 does not
+    ∷ answers (S 0 20 10) (pos 10) 0
+    ∷ answers (S 0 20 10) (pos 11) 13
+    ∷ []
