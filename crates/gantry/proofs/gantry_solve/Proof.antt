@@ -1,0 +1,44 @@
+-- `gantry::gantry_solve` meets its contract; the guarantee is demand 3, of the answer's bytes. Assumes nothing.
+use mathlib.Core.Path.{sym, subst, _∙_}
+use lib.ListN.{length}
+use borrow.Author.Tests.{eq-eqb, ne-eqb}
+use Rattle.image.specs.Demand.{Guarantee}
+use Rattle.image.proofs.Demand.{solvable}
+use Rattle.image.proofs.Guaranteed.{guaranteed}
+use borrow.Author.Needs.{needs}
+use Rattle.gantry.proofs.gantry_solve.Statement.{statement}
+use Rattle.gantry.proofs.gantry_solve.Tie as tie
+use Rattle.gantry.proofs.gantry_solve.Reads as reads
+use Rattle.gantry.proofs.gantry_solve.Lts as lts
+use Rattle.checks.proofs.solve_number.Reads as solve-number-reads
+use Rattle.iteration.proofs.solve.Reads as solve-reads
+
+solve-number-requires : tie.Need-solve-number-requires
+solve-number-requires c κs = search needs
+
+solve-requires : tie.Need-solve-requires
+solve-requires c κs =
+    let a = c .before .before .before .before .before .before .before in
+    let k = c .before .before .solve-number in
+    solvable (a .args .image .now) (a .args .state .now) (a .args .start .now) (length (a .args .answer .now)) (sym (k .ensures) ∙ c .before .if1 .taken)
+
+same-length : tie.Need-same-length
+same-length c = search needs
+
+returns : tie.Need-returns
+returns c =
+    let a = c .before .before .before .before .before .before .before .before .before .before in
+    let k = c .before .before .before .before .before .solve-number in
+    let e = c .before .before .solve .ensures in
+    let z = c .before .before .before .before .if1 .taken in
+    let s = solvable (a .args .image .now) (a .args .state .now) (a .args .start .now) (length (a .args .answer .now)) (sym (k .ensures) ∙ z) in
+    (k .ensures, (rw (eq-eqb (k .result) 0 z) e, λ _. subst (Guarantee (a .args .image .now) (a .args .state .now) (a .args .start .now)) (sym e) (guaranteed (a .args .image .now) (a .args .state .now) (a .args .start .now) (s .0))))
+
+returns-2 : tie.Need-returns-2
+returns-2 c =
+    let k = c .before .solve-number in
+    (k .ensures, (rw (ne-eqb (k .result) 0 (c .if1 .left)), λ e. absurd (c .if1 .left e)))
+
+pub gantry-solve-spec : {M : Type 1} → statement M
+gantry-solve-spec =
+    tie.close (tie.spec solve-number-requires solve-requires same-length returns returns-2)

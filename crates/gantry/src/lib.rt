@@ -1,0 +1,44 @@
+// The calls that the drive's C firmware makes: numbers and byte buffers, no state.
+ghost use mathlib.Core.Path.{_≡_};
+ghost use mathlib.Core.Bool.{cond};
+ghost use lib.Dec.{eqb};
+ghost use lib.ListN.{length};
+ghost use Rattle.image.specs.Calls.{coldNumber, coldAnswer, solveNumber, solveAnswer};
+ghost use Rattle.image.specs.Demand.{Guarantee};
+ghost use Rattle.sheet.specs.Sheet.{intakeNumber, intakeImage};
+
+// Reads a design sheet and writes its image.
+#[no_mangle]
+pub extern "C" fn gantry_intake(sheet: &[u8], image: &mut [u8]) -> u32
+    ensures number { λ r. ⌜ r ≡ intakeNumber (now (sheet .entry)) (length (now (image .entry))) ⌝ }
+    ensures bytes { λ r. ⌜ now (image .exit) ≡ cond (eqb r 0) (intakeImage (now (sheet .entry))) (now (image .entry)) ⌝ }
+{
+    sheet::intake(sheet, image)
+}
+
+// Writes the start nearest zero.
+#[no_mangle]
+pub extern "C" fn gantry_cold_start(image: &[u8], start: &mut [u8]) -> u32
+    ensures number { λ r. ⌜ r ≡ coldNumber (now (image .entry)) (length (now (start .entry))) ⌝ }
+    ensures bytes { λ r. ⌜ now (start .exit) ≡ cond (eqb r 0) (coldAnswer (now (image .entry))) (now (start .entry)) ⌝ }
+{
+    let number = checks::cold_number(image, start.len());
+    if number == 0 {
+        iteration::cold_start(image, start);
+    }
+    number
+}
+
+// Runs the image's sweeps from a start, and writes the commands and their bounds.
+#[no_mangle]
+pub extern "C" fn gantry_solve(image: &[u8], state: &[u8], start: &[u8], answer: &mut [u8]) -> u32
+    ensures number { λ r. ⌜ r ≡ solveNumber (now (image .entry)) (now (state .entry)) (now (start .entry)) (length (now (answer .entry))) ⌝ }
+    ensures bytes { λ r. ⌜ now (answer .exit) ≡ cond (eqb r 0) (solveAnswer (now (image .entry)) (now (state .entry)) (now (start .entry))) (now (answer .entry)) ⌝ }
+    ensures guarantee { λ r. ⌜ (r ≡ 0 → Guarantee (now (image .entry)) (now (state .entry)) (now (start .entry)) (now (answer .exit))) ⌝ }
+{
+    let number = checks::solve_number(image, state, start, answer.len());
+    if number == 0 {
+        iteration::solve(image, state, start, answer);
+    }
+    number
+}

@@ -1,0 +1,2 @@
+-- What the proofs of probe share.
+pub mod Answers

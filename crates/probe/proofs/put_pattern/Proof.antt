@@ -1,0 +1,29 @@
+-- `probe::put_pattern` meets its contract. Assumes nothing.
+use borrow.Author.Needs.{needs}
+use mathlib.Core.Path.{ap, _∙_}
+use mathlib.Core.List.{List}
+use Prim.Native.Nat.{ℕ}
+use Rattle.word.specs.Buffer.{putAt}
+use Rattle.word.specs.Word.{bytesOf}
+use Rattle.probe.proofs.Answers.{put-halves}
+use Rattle.probe.proofs.put_pattern.Statement.{statement}
+use Rattle.probe.proofs.put_pattern.Tie as tie
+
+put-nat-requires : tie.Need-put-nat-requires
+put-nat-requires c κs = search needs
+
+put-nat-requires-2 : tie.Need-put-nat-requires-2
+put-nat-requires-2 c κs = search needs
+
+same-length : tie.Need-same-length
+same-length c = search needs
+
+returns : tie.Need-returns
+returns c =
+    let a = c .before .before .before .before .before .before .before .before .before in
+    c .before .before .put-nat2 .ensures
+    ∙ ap (λ (o : List ℕ). putAt o 4 (bytesOf (a .args .n))) (c .before .before .before .before .before .before .put-nat .ensures)
+    ∙ put-halves (a .args .out .now) (a .args .n) (a .pre)
+
+pub put-pattern-spec : {M : Type 1} → statement M
+put-pattern-spec = tie.close (tie.spec put-nat-requires put-nat-requires-2 same-length returns)

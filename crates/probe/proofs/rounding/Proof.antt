@@ -1,0 +1,13 @@
+-- `probe::rounding` meets its contract. Assumes nothing.
+use borrow.Author.Tests.{eq-eqb, ne-eqb}
+use Rattle.probe.proofs.rounding.Statement.{statement}
+use Rattle.probe.proofs.rounding.Tie as tie
+
+returns : tie.Need-returns
+returns c = rw (eq-eqb (c .before .args .up) 0 (c .if1 .taken))
+
+returns-2 : tie.Need-returns-2
+returns-2 c = rw (ne-eqb (c .before .args .up) 0 (c .if1 .left))
+
+pub rounding-spec : {M : Type 1} → statement M
+rounding-spec = tie.close (tie.spec returns returns-2)

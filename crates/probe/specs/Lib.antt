@@ -1,0 +1,2 @@
+-- What the contracts of probe cite.
+pub mod Probe

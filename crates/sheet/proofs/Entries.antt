@@ -1,0 +1,123 @@
+-- Each line of an accepted sheet is the one due, and its word is the rounding of its double. Assumes nothing.
+use mathlib.Core.Path.{_≡_, refl, sym, ap, _∙_, subst}
+use mathlib.Core.Bool.{Bool, true, false, cond, _&&_}
+use mathlib.Core.List.{List}
+use mathlib.Core.Logic.{⊎-elim}
+use Prim.Native.Nat.{ℕ, zero, suc, _+_, _-_, _*_, _≤_, _<_}
+use native.Mathlib.Nat.{eq-or-lt-of-le, le-of-suc-le-suc, not-suc-le-zero}
+use native.Mathlib.Omega.{arith}
+use lib.Dec.{eqb, leb, lit<}
+use lib.IntN.{ℤ, pos, negsuc}
+use lib.Ieee.{Float, binary64, ofBits}
+use lib.ListN.{length}
+use borrow.Author.Tests.{eqb-true, leb-true}
+use Rattle.word.specs.Hex.{hexAt}
+use Rattle.word.specs.Word.{wordAt}
+use Rattle.double.specs.Double.{convert, rounded, ruleOf}
+use Rattle.double.specs.declared.Converted.{Converted}
+use Rattle.double.specs.declared.Converted.the-variants.{Word, Refused}
+use Rattle.double.proofs.Convert.{convert-word}
+use Rattle.image.specs.Order.{orElse}
+use Rattle.image.specs.Sizes.{bodyCount, Sound}
+use Rattle.image.specs.Layout.{sizesOf}
+use Rattle.image.specs.declared.Sizes.{Sizes}
+use Rattle.image.proofs.Ordering.{both, none, passed}
+use Rattle.line.specs.Line.{isFrame, lineAt, frameAt}
+use Rattle.line.specs.declared.Line.{Line}
+use Rattle.line.proofs.Laws.{framed, frame-end}
+use Rattle.sheet.specs.declared.Value.{Value}
+use Rattle.sheet.specs.declared.Value.the-variants.{Double, Fault}
+use Rattle.sheet.specs.Sheet.{frameSizes, total, dueAt, roundingOf, notBelowZero, wordOf, isDue, valueOf, valueNumber, valueDouble, lineValue, lineDouble, lineFault, lineWord, first, endNumber, sheetNumber, sheetImage, intakeNumber}
+use Rattle.sheet.specs.Laws.{Rounded}
+use Rattle.sheet.proofs.Laws.{total-is}
+use Rattle.sheet.proofs.Step.{fault-none, passed-word}
+use Rattle.sheet.proofs.Answer.{Passing, passing, differ, head-sizes, head-sound}
+use Rattle.sheet.proofs.Image.{image-sizes, image-word}
+
+-- no fault among the first n, and none after them
+first-zero : (f : ℕ → ℕ) (n e : ℕ) → first f n e ≡ 0 → ((k : ℕ) → k < n → f k ≡ 0) × (e ≡ 0)
+first-zero f zero e h = (λ k l. absurd (not-suc-le-zero l), h)
+first-zero f (suc n) e h =
+    let p = first-zero f n (orElse (f n) e) h in
+    let q = none (f n) e (p .1) in
+    (λ k l. ⊎-elim (λ (s : k ≡ n). subst (λ (m : ℕ). f m ≡ 0) (sym s) (q .0)) (λ (m : k < n). p .0 k m) (eq-or-lt-of-le (le-of-suc-le-suc l)), q .1)
+
+-- ---- a line without a fault
+due-double : (t : Bool) (y x : Float) → cond t (Double y) (Fault 2) ≡ Double x → (t ≡ true) × (x ≡ y)
+due-double true y x e = (refl, cc)
+due-double false y x e = absurd (differ (cc))
+
+not-below-word : (t : Bool) (c : Converted) (v : ℤ) → cond t (notBelowZero c) c ≡ Word v → c ≡ Word v
+not-below-word true (Word (pos n)) v e = e
+not-below-word true (Word (negsuc n)) v e = absurd (differ (cc))
+not-below-word true Refused v e = e
+not-below-word false c v e = e
+
+module _ (z : Sizes) (s : List ℕ) (i : ℕ) (f : lineFault z s i ≡ 0) where
+  abbrev at : ℕ
+  at = 23 * (i + 1)
+
+  value-double : lineValue z s i ≡ Double (lineDouble z s i)
+  unfolding lineFault
+  value-double = by (lineValue z s i) refl f
+    where
+      by : (g : Value) → lineValue z s i ≡ g → valueNumber z (dueAt z i .kind) g ≡ 0 → g ≡ Double (valueDouble g)
+      by (Double x) e h = refl
+      by (Fault n) e h = absurd (fault-none z s i n e h)
+
+  line-frame : (isFrame s at ≡ true) × (valueOf (dueAt z i) (frameAt s at) ≡ Double (lineDouble z s i))
+  unfolding lineValue
+  line-frame = framed (λ (l : Line). valueOf (dueAt z i) l ≡ Double (lineDouble z s i)) s at (λ e. differ (cc)) (λ e. differ (cc)) value-double
+
+  line-due : (isDue (dueAt z i) (hexAt 2 s at) (hexAt 2 s (at + 2)) (hexAt 2 s (at + 4)) ≡ true) × (lineDouble z s i ≡ ofBits binary64 (hexAt 16 s (at + 6)))
+  line-due = due-double (isDue (dueAt z i) (hexAt 2 s at) (hexAt 2 s (at + 2)) (hexAt 2 s (at + 4))) (ofBits binary64 (hexAt 16 s (at + 6))) (lineDouble z s i) (line-frame .1)
+
+  line-rounded : lineWord z s i ≡ rounded (ruleOf (roundingOf (dueAt z i .kind))) (z .b) (lineDouble z s i)
+  unfolding lineFault lineWord wordOf
+  line-rounded =
+      let rule = ruleOf (roundingOf (dueAt z i .kind)) in
+      convert-word rule (z .b) (z .w) (lineDouble z s i)
+      (not-below-word (eqb (dueAt z i .kind) 7) (convert rule (z .b) (z .w) (lineDouble z s i)) _ (passed-word z s i (lineValue z s i) refl f)) .1
+
+  pub line-facts : wordAt (sheetImage s) (4 * (8 + i)) ≡ lineWord z s i → Rounded z s i
+  line-facts w =
+      let p = both (eqb (hexAt 2 s at) (dueAt z i .kind) && eqb (hexAt 2 s (at + 2)) (dueAt z i .row)) (eqb (hexAt 2 s (at + 4)) (dueAt z i .column)) (line-due .0) in
+      let q = both (eqb (hexAt 2 s at) (dueAt z i .kind)) (eqb (hexAt 2 s (at + 2)) (dueAt z i .row)) (p .0) in
+      record {
+        kind = eqb-true _ _ (q .0);
+        row = eqb-true _ _ (q .1);
+        column = eqb-true _ _ (p .1);
+        word = w ∙ line-rounded ∙ ap (rounded (ruleOf (roundingOf (dueAt z i .kind))) (z .b)) (line-due .1);
+      }
+
+-- ---- the sheet
+pub accepted-sheet : (s : List ℕ) (room : ℕ) → intakeNumber s room ≡ 0 → sheetNumber s ≡ 0
+unfolding intakeNumber
+accepted-sheet s room e = none (sheetNumber s) _ e .0
+
+module _ (s : List ℕ) (e : sheetNumber s ≡ 0) where
+  abbrev p : Passing s
+  p = passing s e
+
+  passes : ((k : ℕ) → k < total (p .sizes) → lineFault (p .sizes) s k ≡ 0) × (endNumber (p .sizes) s ≡ 0)
+  passes = first-zero (lineFault (p .sizes) s) (total (p .sizes)) (endNumber (p .sizes) s) (p .number)
+
+  -- the sizes are those of line 01
+  pub sizes-read : sizesOf (sheetImage s) ≡ frameSizes (hexAt 2 s 2) (hexAt 2 s 4) (hexAt 16 s 6)
+  sizes-read = image-sizes s p ∙ head-sizes s 0 (p .sizes) (p .head) .1
+
+  -- the words are the roundings of the sheet's doubles, entry by entry, in sheet order
+  pub words-rounded : (i : ℕ) → i < bodyCount (sizesOf (sheetImage s)) → Rounded (sizesOf (sheetImage s)) s i
+  words-rounded i =
+      rw (image-sizes s p)
+      (λ (h : i < bodyCount (p .sizes)). line-facts (p .sizes) s i (passes .0 i (omega (arith, total-is (p .sizes)))) (image-word s p i h))
+
+  -- no line is missing, and no byte follows the last
+  pub sheet-length : length s ≡ 23 * (1 + bodyCount (sizesOf (sheetImage s)))
+  sheet-length =
+      let z = p .sizes in
+      let o : Sound z = head-sound (lineAt s 0) z (p .head) in
+      let k : 1 ≤ total z = omega (arith, total-is z) in
+      let q = passed (leb (length s) (23 * (total z + 1))) 4 0 (lit< tt) (passes .1) in
+      rw (image-sizes s p)
+      (omega (arith, total-is z, leb-true (length s) (23 * (total z + 1)) (q .0), frame-end s (23 * (total z - 1 + 1)) (line-frame z s (total z - 1) (passes .0 (total z - 1) (omega arith)) .0)))

@@ -1,0 +1,131 @@
+-- The image of a sheet: its sizes, its words, and that the image's own checks pass where the sheet's do. Assumes nothing.
+use mathlib.Core.Path.{_≡_, sym, ap, _∙_}
+use mathlib.Core.Bool.{true}
+use mathlib.Core.List.{List, [], _∷_, _++_}
+use Prim.Native.Nat.{ℕ, zero, suc, _+_, _*_, _<_}
+use native.Mathlib.Omega.{arith}
+use lib.IntN.{ℤ, pos}
+use lib.ListN.{length, getD, List·getD-append}
+use lib.Seq.{getD-append-add, take-at, drop-at}
+use lib.Signed.{leZ}
+use borrow.Author.Tests.{eq-eqb, le-leb}
+use mir.Syntax.{w32}
+use mir.Val.{ofZ}
+use mir.Facts.{fits-ofZ}
+use Rattle.word.specs.Word.{Words, natAt, wordAt, wordBytes, wordsOut}
+use Rattle.word.proofs.Words.{nat-back, nat-drop, length-bytes, length-words, word-of-words}
+use Rattle.gradient.specs.Index.{tab}
+use Rattle.gradient.proofs.Index.{tab-at}
+use Rattle.image.specs.Order.{allTo}
+use Rattle.image.specs.Sizes.{commandCount, bodyCount, sound, Sound, Whole}
+use Rattle.image.specs.Layout.{sizesOf, boundAt, boundPlace}
+use Rattle.image.specs.Checks.{headNumber, bodyNumber, wordTest, boundTest}
+use Rattle.image.specs.Tables.{imageNumber}
+use Rattle.image.specs.declared.Sizes.{Sizes}
+use Rattle.image.proofs.Ordering.{all-of, none}
+use Rattle.sheet.specs.declared.Due.{Due}
+use Rattle.sheet.specs.Sheet.{total, dueAt, lineWord, sizeWords, linesWords, sheetNumber, sheetImage, ownTables, intakeNumber, intakeImage}
+use Rattle.line.specs.Line.{lineAt}
+use Rattle.sheet.proofs.Laws.{total-is, due-7}
+use Rattle.sheet.proofs.Whole.{long}
+use Rattle.sheet.proofs.Answer.{Passing, passing, head-true, head-sound}
+use Rattle.sheet.proofs.Fits.{lines-fit, line-word-in, state-limit}
+
+-- ---- an unsigned word of a list that is written
+nat-of-words : (zs : List ℤ) (i : ℕ) → Words zs → i < length zs → natAt (wordsOut zs) (4 * i) ≡ ofZ w32 (getD zs i (pos 0))
+unfolding wordsOut
+nat-of-words [] i f h = absurd (omega arith)
+nat-of-words (z ∷ zs) zero f h =
+    nat-back 4 (ofZ w32 z) (fits-ofZ (f 0 h) .fits) (wordBytes z ++ wordsOut zs) 0 (take-at (wordBytes z) (wordsOut zs) 4 (length-bytes 4 (ofZ w32 z)))
+nat-of-words (z ∷ zs) (suc i) f h =
+    let e : 4 * suc i ≡ 4 + 4 * i = omega arith in
+    ap (natAt (wordBytes z ++ wordsOut zs)) e
+    ∙ sym (nat-drop 4 (wordBytes z ++ wordsOut zs) 4 (4 * i))
+    ∙ ap (λ (l : List ℕ). natAt l (4 * i)) (drop-at (wordBytes z) (wordsOut zs) 4 (length-bytes 4 (ofZ w32 z)))
+    ∙ nat-of-words zs i (λ j l. f (suc j) (omega arith)) (omega arith)
+
+-- ---- the image of lines with sound sizes
+module _ (z : Sizes) (s : List ℕ) (o : Sound z) where
+  abbrev image : List ℕ
+  image = wordsOut (linesWords z s)
+
+  size-at : (k : ℕ) → k < 8 → natAt image (4 * k) ≡ ofZ w32 (getD (sizeWords z) k (pos 0))
+  size-at k h =
+      nat-of-words (linesWords z s) k (lines-fit z s o) (omega (arith, long z s))
+      ∙ ap (ofZ w32) (List·getD-append (sizeWords z) (tab (lineWord z s) (total z)) (pos 0) k h)
+
+  pub line-sizes : sizesOf image ≡ z
+  unfolding sizesOf
+  line-sizes = rw (size-at 0 (omega arith), size-at 1 (omega arith), size-at 2 (omega arith), size-at 3 (omega arith), size-at 4 (omega arith), size-at 5 (omega arith))
+
+  pub line-size : length image ≡ 4 * (8 + bodyCount z)
+  line-size = length-words (linesWords z s) ∙ ap (λ (k : ℕ). 4 * k) (long z s ∙ ap (λ (k : ℕ). 8 + k) (total-is z))
+
+  pub line-word : (i : ℕ) → i < bodyCount z → wordAt image (4 * (8 + i)) ≡ lineWord z s i
+  line-word i h =
+      let l : i < total z = omega (arith, total-is z) in
+      word-of-words (linesWords z s) (8 + i) (lines-fit z s o) (omega (arith, long z s))
+      ∙ getD-append-add (sizeWords z) (tab (lineWord z s) (total z)) i (pos 0)
+      ∙ tab-at (lineWord z s) (total z) i (pos 0) l
+
+  -- checks 6, 3 and 6
+  line-head : sound z ≡ true → headNumber image ≡ 0
+  unfolding headNumber
+  line-head e =
+      rw (line-sizes, le-leb 32 (length image) (omega (arith, line-size)), e, eq-eqb (natAt image 24) 0 (size-at 6 (omega arith)), eq-eqb (natAt image 28) 0 (size-at 7 (omega arith)), eq-eqb (length image) (4 * (8 + bodyCount z)) line-size)
+
+  -- check 5
+  line-words : allTo (wordTest z image) (bodyCount z) ≡ true
+  line-words = all-of (wordTest z image) (bodyCount z) (λ i h. rw (line-word i h) (line-word-in z s i))
+
+  line-bounds : allTo (boundTest z image) (z .nx) ≡ true
+  unfolding boundAt
+  line-bounds = all-of (boundTest z image) (z .nx) (λ j h. at j h)
+    where
+      at : (j : ℕ) → j < z .nx → leZ (pos 0) (wordAt image (boundPlace z + 4 * j)) ≡ true
+      at j h =
+          let n = commandCount z in
+          let i = n * n + n * z .nx + 2 * z .nu + 1 + j in
+          let e : boundPlace z + 4 * j ≡ 4 * (8 + i) = omega arith in
+          let k : dueAt z i .kind ≡ 7 = ap (λ (d : Due). d .kind) (sym (due-7 z i (omega arith) (omega arith) (omega arith) (omega arith) (omega arith) (omega (arith, total-is z)))) in
+          rw (e, line-word i (omega arith)) (state-limit z s i k)
+
+  line-body : bodyNumber z image ≡ 0
+  unfolding bodyNumber
+  line-body = rw (line-words, line-bounds)
+
+-- ---- the image of a sheet that passes
+module _ (s : List ℕ) (p : Passing s) where
+  abbrev sizes : Sizes
+  sizes = p .sizes
+
+  sound-sizes : Sound sizes
+  sound-sizes = head-sound (lineAt s 0) sizes (p .head)
+
+  pub image-is : sheetImage s ≡ wordsOut (linesWords sizes s)
+  unfolding sheetImage
+  image-is = ap wordsOut (p .words)
+
+  pub image-sizes : sizesOf (sheetImage s) ≡ sizes
+  image-sizes = rw image-is (line-sizes sizes s sound-sizes)
+
+  pub image-whole : Whole (sizesOf (sheetImage s)) (sheetImage s)
+  image-whole = rw (image-sizes, image-is) (record { sizes = sound-sizes; size = line-size sizes s sound-sizes })
+
+  pub image-word : (i : ℕ) → i < bodyCount sizes → wordAt (sheetImage s) (4 * (8 + i)) ≡ lineWord sizes s i
+  image-word i h = rw image-is (line-word sizes s sound-sizes i h)
+
+  image-number : ownTables (sheetImage s) ≡ 0 → imageNumber (sheetImage s) ≡ 0
+  unfolding imageNumber
+  image-number e =
+      let h : headNumber (sheetImage s) ≡ 0 = rw image-is (line-head sizes s sound-sizes (head-true (lineAt s 0) sizes (p .head))) in
+      let b : bodyNumber (sizesOf (sheetImage s)) (sheetImage s) ≡ 0 = rw (image-sizes, image-is) (line-body sizes s sound-sizes) in
+      rw (h, b) e
+
+-- an accepted sheet's image is accepted
+pub accepted-image : (s : List ℕ) (room : ℕ) → intakeNumber s room ≡ 0 → imageNumber (intakeImage s) ≡ 0
+unfolding intakeNumber
+accepted-image s room e =
+    let a = none (sheetNumber s) _ e in
+    let b = none (ownTables (sheetImage s)) _ (a .1) in
+    image-number s (passing s (a .0)) (b .0)

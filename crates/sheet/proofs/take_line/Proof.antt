@@ -1,0 +1,256 @@
+-- `sheet::take_line` meets its contract: each way out is one law of Step.antt. Assumes nothing.
+use native.Mathlib.Omega.{arith}
+use mathlib.Core.Path.{_≡_, sym, ap, _∙_}
+use Prim.Native.Nat.{ℕ, _+_, _-_, _≤_, _<_}
+use lib.IntN.{ℤ}
+use lib.Ieee.{Float}
+use mir.Syntax.{w64}
+use mir.Val.{toZ, ofZ}
+use Rattle.double.specs.declared.Converted.the-variants.{Word, Refused}
+use Rattle.sheet.specs.declared.Due.{Due}
+use Rattle.sheet.specs.declared.Value.the-variants.{Double}
+use Rattle.sheet.specs.Sheet.{dueAt, lineValue, lineFault, lineWord, wordOf, valueDouble}
+use Rattle.sheet.specs.Reading.{lowBase}
+use Rattle.sheet.proofs.Laws.{total-high}
+use Rattle.sheet.proofs.Step.{low-due, high-due, low-of, high-of, fault-none, value-is, value-fault, fault-word, fault-refused, pair-words, pair-fault, step-word, step-low, step-pair}
+use borrow.Author.Needs.{needs}
+use Rattle.sheet.proofs.take_line.Statement.{statement}
+use Rattle.sheet.proofs.take_line.Tie as tie
+
+-- the place is in the tables
+module _ (c : tie.After-due-at) where
+  abbrev a : tie.Start
+  a = c .before .before
+
+  small : a .args .i < 469
+  small = omega (arith, total-high (a .args .z) (a .pre .0), a .pre .1)
+
+-- the line's double was read
+module _ (c : tie.After-known-told) where
+  abbrev st : tie.Start
+  st = c .before .before .before .before .before .before .before
+
+  abbrev x : Float
+  x = c .before .x .given .0 .0
+
+  value : lineValue (st .args .z) (st .args .s .now) (st .args .i) ≡ Double x
+  value = value-is (st .args .z) (st .args .s .now) (st .args .i) _ _ _ (c .before .before .before .value-of .ensures) (c .before .before .before .before .before .due-at .ensures) (c .before .before .before .before .line-from .ensures .0) ∙ c .before .x .given .1
+
+  due-is : c .before .before .before .before .before .due-at .result ≡ dueAt (st .args .z) (st .args .i)
+  due-is = c .before .before .before .before .before .due-at .ensures
+
+-- a high limit
+module _ (c : tie.Then1) where
+  abbrev su : tie.Start
+  su = st (c .before .before)
+
+  k5 : dueAt (su .args .z) (su .args .i) .kind ≡ 5
+  k5 = ap (λ (d : Due). d .kind) (sym (due-is (c .before .before))) ∙ c .if1 .taken
+
+  high : (lowBase (su .args .z) + su .args .z .nu ≤ su .args .i) × (su .args .i < lowBase (su .args .z) + su .args .z .nu + su .args .z .nu)
+  high = high-of (su .args .z) (su .args .i) k5
+
+  row-is : c .before .before .before .before .before .before .before .due-at .result .row ≡ su .args .i - lowBase (su .args .z) - su .args .z .nu
+  row-is = ap (λ (d : Due). d .row) (due-is (c .before .before) ∙ high-due (su .args .z) (su .args .i) (high .0) (high .1))
+
+  row-small : c .before .before .before .before .before .before .before .due-at .result .row < 4
+  row-small = omega (arith, row-is, high, su .pre .0 .nu-high)
+
+  -- the row of the low that was kept
+  abbrev rowed : ℕ
+  rowed = c .before .before .before .before .before .before .before .due-at .result .row
+
+-- a word
+module _ (c : tie.After-known-told4) where
+  abbrev kt : tie.After-known-told
+  kt = c .before .before .before .before .before .before
+
+  abbrev v : ℤ
+  v = c .before .v .given .0 .0
+
+  word-is : wordOf (st kt .args .z) (dueAt (st kt .args .z) (st kt .args .i) .kind) (x kt) ≡ Word v
+  word-is = ap (λ (d : Due). wordOf (st kt .args .z) (d .kind) (x kt)) (sym (due-is kt)) ∙ sym (c .before .before .before .word-of .ensures) ∙ c .before .v .given .1
+
+  taken : (lineFault (st kt .args .z) (st kt .args .s .now) (st kt .args .i) ≡ 0) × (lineWord (st kt .args .z) (st kt .args .s .now) (st kt .args .i) ≡ v)
+  taken = fault-word (st kt .args .z) (st kt .args .s .now) (st kt .args .i) (x kt) v (value kt) word-is
+
+-- a low limit
+module _ (c : tie.Then2) where
+  abbrev sl : tie.Start
+  sl = st (kt (c .before .before))
+
+  k4 : dueAt (sl .args .z) (sl .args .i) .kind ≡ 4
+  k4 = ap (λ (d : Due). d .kind) (sym (due-is (kt (c .before .before)))) ∙ c .if2 .taken
+
+  low-row : kt (c .before .before) .before .before .before .before .before .due-at .result .row ≡ sl .args .i - lowBase (sl .args .z)
+  low-row = let l = low-of (sl .args .z) (sl .args .i) k4 in ap (λ (d : Due). d .row) (due-is (kt (c .before .before)) ∙ low-due (sl .args .z) (sl .args .i) l)
+
+  low-small : kt (c .before .before) .before .before .before .before .before .due-at .result .row < 4
+  low-small = omega (arith, low-row, low-of (sl .args .z) (sl .args .i) k4, sl .pre .0 .nu-high)
+
+due-at-requires : tie.Need-due-at-requires
+due-at-requires c κs = search needs
+
+add-line-from : tie.Need-add-line-from
+add-line-from c = omega (arith, small c)
+
+mul-line-from : tie.Need-mul-line-from
+mul-line-from c = omega (arith, small c)
+
+line-from-requires : tie.Need-line-from-requires
+line-from-requires c κs = search needs
+
+value-of-requires : tie.Need-value-of-requires
+value-of-requires c κs = search needs
+
+enum-known-x : tie.Need-enum-known-x
+enum-known-x c = search needs
+
+enum-known-n : tie.Need-enum-known-n
+enum-known-n c = search needs
+
+returns : tie.Need-returns
+returns c =
+    let k = c .before .before .before in
+    let u = k .before .before .before .before in
+    let g = value-is (u .args .z) (u .args .s .now) (u .args .i) _ _ _ (k .value-of .ensures) (k .before .before .due-at .ensures) (k .before .line-from .ensures .0) ∙ c .before .n .given .1 in
+    (value-fault (u .args .z) (u .args .s .now) (u .args .i) _ g, λ q. absurd (fault-none (u .args .z) (u .args .s .now) (u .args .i) _ g q))
+
+mul-low : tie.Need-mul-low
+mul-low c = omega (arith, row-small c)
+
+element-copy-out-low : tie.Need-element-copy-out-low
+element-copy-out-low c = row-small c
+
+inward-requires : tie.Need-inward-requires
+inward-requires c κs = search needs
+
+enum-known-low : tie.Need-enum-known-low
+enum-known-low c = search needs
+
+add-low : tie.Need-add-low
+add-low c = omega (arith, small (c .before .before .before .before .before .before .before .before .before .before .before .before))
+
+sub-low : tie.Need-sub-low
+sub-low c = search needs
+
+mul-low-2 : tie.Need-mul-low-2
+mul-low-2 c = omega (arith, small (c .before .before .before .before .before .before .before .before .before .before .before .before .before))
+
+element-set-from-low : tie.Need-element-set-from-low
+element-set-from-low c = omega (arith, small (c .before .before .before .before .before .before .before .before .before .before .before .before .before))
+
+add-high : tie.Need-add-high
+add-high c = omega (arith, small (c .before .before .before .before .before .before .before .before .before .before .before .before .before))
+
+mul-high : tie.Need-mul-high
+mul-high c = omega (arith, small (c .before .before .before .before .before .before .before .before .before .before .before .before .before))
+
+element-set-from-high : tie.Need-element-set-from-high
+element-set-from-high c = omega (arith, small (c .before .before .before .before .before .before .before .before .before .before .before .before .before))
+
+returns-2 : tie.Need-returns-2
+returns-2 c =
+    let t = c .before .before .before .before .before .before in
+    let u = su t in
+    let low = c .before .before .low2 in
+    let ea : toZ w64 (ofZ w64 (low .given .0 .0)) ≡ low .given .0 .0 = search needs in
+    let eb : toZ w64 (ofZ w64 (low .given .0 .1 .0)) ≡ low .given .0 .1 .0 = search needs in
+    let p = pair-words (u .args .z) (u .args .s .now) (u .args .i) (u .args .words .now) (u .args .lows .now) (u .pre .0) (u .pre .2) (k5 t) (x (t .before .before)) (value (t .before .before)) (rowed t) (row-is t) (low .given .0 .0) (low .given .0 .1 .0) (sym (low .given .1) ∙ c .before .before .before .before .inward .ensures .0) in
+    (sym (p .2), λ q. step-pair (u .args .z) (u .args .s .now) (u .args .i) (u .args .words .now) (u .args .lows .now) (u .pre .0) (u .pre .1) (u .pre .2) (p .2) _ _ (p .0 ∙ sym ea) (p .1 ∙ sym eb) (k5 t))
+
+enum-told : tie.Need-enum-told
+enum-told c = search needs
+
+returns-3 : tie.Need-returns-3
+returns-3 c =
+    let t = c .before .before .before .before in
+    let u = su t in
+    let f = pair-fault (u .args .z) (u .args .s .now) (u .args .i) (u .args .words .now) (u .args .lows .now) (u .pre .0) (u .pre .2) (k5 t) (x (t .before .before)) (value (t .before .before)) (rowed t) (row-is t) (sym (c .enum-told .given .1) ∙ c .before .before .inward .ensures .0) in
+    (sym f, λ q. let n : ⊥ = omega arith in absurd n)
+
+word-of-requires : tie.Need-word-of-requires
+word-of-requires c κs = search needs
+
+enum-known-v : tie.Need-enum-known-v
+enum-known-v c = search needs
+
+mul-lows : tie.Need-mul-lows
+mul-lows c = omega (arith, low-small c)
+
+element-write-lows : tie.Need-element-write-lows
+element-write-lows c = low-small c
+
+add-v : tie.Need-add-v
+add-v c = omega (arith, small (c .before .before .before .before .before .before .before .before .before .before .before .before .before))
+
+mul-v : tie.Need-mul-v
+mul-v c = omega (arith, small (c .before .before .before .before .before .before .before .before .before .before .before .before .before))
+
+element-set-from-v : tie.Need-element-set-from-v
+element-set-from-v c = omega (arith, small (c .before .before .before .before .before .before .before .before .before .before .before .before .before))
+
+enum-told-2 : tie.Need-enum-told-2
+enum-told-2 c = search needs
+
+returns-4 : tie.Need-returns-4
+returns-4 c =
+    let d = c .before .before in
+    let u = sl c in
+    (sym (taken d .0), λ q. step-low (u .args .z) (u .args .s .now) (u .args .i) (u .args .words .now) (u .args .lows .now) (u .pre .0) (u .pre .1) (u .pre .2) (taken d .0) (x (kt d)) _ (ap valueDouble (value (kt d))) (k4 c) (low-row c))
+
+returns-5 : tie.Need-returns-5
+returns-5 c =
+    let d = c .before .before in
+    let u = st (kt d) in
+    let e : toZ w64 (ofZ w64 (v d)) ≡ v d = search needs in (
+      sym (taken d .0),
+      λ q. step-word (u .args .z) (u .args .s .now) (u .args .i) (u .args .words .now) (u .args .lows .now) (u .pre .0) (u .pre .1) (u .pre .2) (taken d .0) _ (taken d .1 ∙ sym e)
+          (λ (h : dueAt (u .args .z) (u .args .i) .kind ≡ 4). c .if2 .left (ap (λ (m : Due). m .kind) (due-is (kt d)) ∙ h))
+          (λ (h : dueAt (u .args .z) (u .args .i) .kind ≡ 5). d .before .before .before .before .if1 .left (ap (λ (m : Due). m .kind) (due-is (kt d)) ∙ h)),
+    )
+
+returns-6 : tie.Need-returns-6
+returns-6 c =
+    let k = c .before .before .before .before .before in
+    let u = st k in
+    let h : wordOf (u .args .z) (dueAt (u .args .z) (u .args .i) .kind) (x k) ≡ Refused = ap (λ (d : Due). wordOf (u .args .z) (d .kind) (x k)) (sym (due-is k)) ∙ sym (c .before .before .word-of .ensures) ∙ c .enum-told2 .given .1 in
+    (sym (fault-refused (u .args .z) (u .args .s .now) (u .args .i) (x k) (value k) h), λ q. let n : ⊥ = omega arith in absurd n)
+
+pub take-line-spec : {M : Type 1} → statement M
+take-line-spec =
+    tie.close
+    (tie.spec
+    due-at-requires
+    add-line-from
+    mul-line-from
+    line-from-requires
+    value-of-requires
+    enum-known-x
+    enum-known-n
+    returns
+    mul-low
+    element-copy-out-low
+    inward-requires
+    enum-known-low
+    add-low
+    sub-low
+    mul-low-2
+    element-set-from-low
+    add-high
+    mul-high
+    element-set-from-high
+    returns-2
+    enum-told
+    returns-3
+    word-of-requires
+    enum-known-v
+    mul-lows
+    element-write-lows
+    add-v
+    mul-v
+    element-set-from-v
+    enum-told-2
+    returns-4
+    returns-5
+    returns-6)

@@ -1,0 +1,118 @@
+-- Worked sheets by computation: document 01's S, and S with a line or a byte changed. Assumes nothing.
+use mathlib.Core.Path.{_≡_, refl}
+use mathlib.Core.List.{List, [], _∷_, _++_, map}
+use Prim.Native.Nat.{ℕ}
+use lib.ListN.{set, take}
+use lib.Ieee.{ofBits}
+use Rattle.integer.specs.Round.{floor, ceil}
+use Rattle.word.specs.Digits.{numberBE, digitsBE}
+use Rattle.word.specs.Hex.{isHex, digitOf, hexes, hexAt, digitByte, hexDigits}
+use Rattle.word.specs.Word.{natBE, bytesBE, wordsAt, wordsOut}
+use Rattle.double.specs.Double.{scalable, rounded, accepted}
+use Rattle.gradient.specs.Problem.{F, top}
+use Rattle.gradient.specs.Bounds.{magnitude, width, rangeP, rangeY, rangeA, rangeB}
+use Rattle.image.specs.Sizes.{sound}
+use Rattle.image.specs.Layout.{sizesOf, lowerAt, upperAt, momentumAt, boundAt, entryOf, commandAt, problemAt}
+use Rattle.image.specs.Tables.{symmetryTest, othersAt, marginAt, totalAt, leastMargin, largestTotal, momentumRange, momentumRatio, pointTest, rowTest, tablesNumber}
+use Rattle.line.specs.Line.{lineAt}
+use Rattle.sheet.specs.Sheet.{headOf, total, dueAt, wordOf, lineValue, lineFault, lineWord, sheetNumber, sheetWords, sheetImage, intakeNumber, intakeImage}
+
+-- a text of frames, "22 hexadecimal digits .., then byte 10" each
+abbrev text : List ℕ → List ℕ
+text [] = []
+text (n ∷ ns) = hexDigits 22 n ++ (10 ∷ text ns)
+
+-- "this sheet, S"
+abbrev lines : List ℕ
+lines =
+    0x0101010104080000030000
+    ∷ 0x0200003FE0000000000000
+    ∷ 0x0300003FF0000000000000
+    ∷ 0x040000BFF4000000000000
+    ∷ 0x0500003FF4000000000000
+    ∷ 0x0600000000000000000000
+    ∷ 0x0700003FE4000000000000
+    ∷ []
+
+-- S with line k changed
+abbrev changed : ℕ → ℕ → List ℕ
+changed k n = text (set lines k n)
+
+-- its image, 56 bytes
+image-S : intakeImage (text lines) ≡
+    0 ∷ 0 ∷ 0 ∷ 1 ∷ 0 ∷ 0 ∷ 0 ∷ 1 ∷ 0 ∷ 0 ∷ 0 ∷ 1 ∷ 0 ∷ 0 ∷ 0 ∷ 4 ∷ 0 ∷ 0 ∷ 0 ∷ 8 ∷ 0 ∷ 0 ∷ 0 ∷ 3 ∷ 0 ∷ 0 ∷ 0 ∷ 0 ∷ 0 ∷ 0 ∷ 0 ∷ 0
+    ∷ 0 ∷ 0 ∷ 0 ∷ 8 ∷ 0 ∷ 0 ∷ 0 ∷ 16 ∷ 255 ∷ 255 ∷ 255 ∷ 236 ∷ 0 ∷ 0 ∷ 0 ∷ 20 ∷ 0 ∷ 0 ∷ 0 ∷ 0 ∷ 0 ∷ 0 ∷ 0 ∷ 10 ∷ []
+unfolding isHex digitOf hexes hexAt digitByte hexDigits numberBE digitsBE bytesBE wordsOut ofBits floor scalable rounded accepted sound lineAt headOf total dueAt wordOf lineValue lineFault lineWord sheetNumber sheetWords sheetImage
+image-S = refl
+
+-- ---- the number through lines and end, beside each sheet
+pub record Sample : Type 0 where
+  pub number : ℕ
+  pub sheet : List ℕ
+
+abbrev sample : ℕ → List ℕ → Sample
+sample n s = record { number = n; sheet = s }
+
+abbrev samples : List Sample
+samples =
+    sample 0 (text lines)
+    -- "the empty sheet", a sheet that "ends between lines too early", "a cut line", "a byte after the last line due"
+    ∷ sample 4 []
+    ∷ sample 4 (take 69 (text lines))
+    ∷ sample 1 (take 160 (text lines))
+    ∷ sample 4 (text lines ++ (10 ∷ []))
+    -- a lower-case digit
+    ∷ sample 1 (set (text lines) 30 102)
+    -- another kind, row or column than due; a 0 byte of line 01 that is not 0
+    ∷ sample 2 (changed 1 0x0300003FE0000000000000)
+    ∷ sample 2 (changed 1 0x0201003FE0000000000000)
+    ∷ sample 2 (changed 1 0x0200013FE0000000000000)
+    ∷ sample 2 (changed 0 0x0101010104080100030000)
+    -- nu 0, sweeps 0, 401 and 400
+    ∷ sample 3 (changed 0 0x0100010104080000030000)
+    ∷ sample 3 (changed 0 0x0101010104080000000000)
+    ∷ sample 3 (changed 0 0x0101010104080001910000)
+    ∷ sample 0 (changed 0 0x0101010104080001900000)
+    -- "NaN, infinity, rounded value outside the word, or a state limit below 0 once rounded", which −0.5 counts is not
+    ∷ sample 5 (changed 1 0x0200007FF8000000000000)
+    ∷ sample 5 (changed 3 0x040000FFF0000000000000)
+    ∷ sample 5 (changed 2 0x0300004020000000000000)
+    ∷ sample 5 (changed 6 0x070000BFB0000000000000)
+    ∷ sample 0 (changed 6 0x070000BFA0000000000000)
+    -- "minus zero is zero"
+    ∷ sample 0 (changed 5 0x0600008000000000000000)
+    -- "the first fault decides": 5 at the low's own line before 1 at the high's; 1 before that 5
+    ∷ sample 5 (set (changed 3 0x040000FFF0000000000000) 99 102)
+    ∷ sample 1 (set (changed 3 0x040000FFF0000000000000) 30 102)
+    ∷ []
+
+numbers : map (λ (x : Sample). sheetNumber (x .sheet)) samples ≡ map (λ (x : Sample). x .number) samples
+unfolding isHex digitOf hexes hexAt digitByte hexDigits numberBE digitsBE bytesBE wordsOut ofBits floor scalable rounded accepted sound lineAt headOf total dueAt wordOf lineValue lineFault lineWord sheetNumber sheetWords sheetImage
+numbers = refl
+
+-- ---- the number of the call, for a buffer of 56 bytes and of 55
+
+-- both limits 0.03125: the low is 1 count, the high 0
+abbrev crossed : List ℕ
+crossed = text (set (set lines 3 0x0400003FA0000000000000) 4 0x0500003FA0000000000000)
+
+-- state limits of 117 counts and of 118
+abbrev fitting : List ℕ
+fitting = changed 6 0x070000401D400000000000
+
+abbrev crowded : List ℕ
+crowded = changed 6 0x070000401D800000000000
+
+abbrev calls : List Sample
+calls = sample 0 (text lines) ∷ sample 7 crossed ∷ sample 4 (crossed ++ (10 ∷ [])) ∷ sample 0 fitting ∷ sample 12 crowded ∷ []
+
+abbrev shortCalls : List Sample
+shortCalls = sample 15 (text lines) ∷ sample 7 crossed ∷ sample 12 crowded ∷ []
+
+call-numbers : map (λ (x : Sample). intakeNumber (x .sheet) 56) calls ≡ map (λ (x : Sample). x .number) calls
+unfolding isHex digitOf hexes hexAt digitByte hexDigits numberBE digitsBE bytesBE wordsOut ofBits floor scalable rounded accepted sound lineAt headOf total dueAt wordOf lineValue lineFault lineWord sheetNumber sheetWords sheetImage intakeNumber natBE wordsAt sizesOf lowerAt upperAt momentumAt boundAt entryOf commandAt problemAt symmetryTest othersAt marginAt totalAt leastMargin largestTotal momentumRange momentumRatio pointTest rowTest tablesNumber F top ceil magnitude width rangeP rangeY rangeA rangeB
+call-numbers = refl
+
+short-numbers : map (λ (x : Sample). intakeNumber (x .sheet) 55) shortCalls ≡ map (λ (x : Sample). x .number) shortCalls
+unfolding isHex digitOf hexes hexAt digitByte hexDigits numberBE digitsBE bytesBE wordsOut ofBits floor scalable rounded accepted sound lineAt headOf total dueAt wordOf lineValue lineFault lineWord sheetNumber sheetWords sheetImage intakeNumber natBE wordsAt sizesOf lowerAt upperAt momentumAt boundAt entryOf commandAt problemAt symmetryTest othersAt marginAt totalAt leastMargin largestTotal momentumRange momentumRatio pointTest rowTest tablesNumber F top ceil magnitude width rangeP rangeY rangeA rangeB
+short-numbers = refl

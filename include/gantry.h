@@ -1,0 +1,74 @@
+/* Celadonmaul: the verified drive of a two-motor plotting gantry. The C interface of libgantry.a.
+ *
+ * Every call answers a number. 0 means accepted: the lent buffer then holds the whole answer. Any other number is a
+ * refusal: every byte of every buffer is as it was. The number follows from the input alone, for all inputs, by the
+ * order of the checks. That each call does this, and nothing undefined on the way, is proved; docs/PROOFS.md says by
+ * which theorems.
+ *
+ * What the caller owes: each pointer is valid for its length (for a length of 0 any pointer that is not null will do), the
+ * buffer that is written overlaps no other buffer of the call, and no other thread writes to a buffer during the call.
+ * The calls keep no state, use no heap, and never fail to return. A solve uses less than 16 KiB of stack.
+ */
+#ifndef GANTRY_H
+#define GANTRY_H
+
+#include <stddef.h>
+#include <stdint.h>
+
+#ifdef __cplusplus
+extern "C" {
+#endif
+
+/* The sizes of the buffers. nu motors, N steps, n = nu * N commands, nx state values. */
+#define GANTRY_MAX_COMMANDS 16
+#define GANTRY_MAX_STATES 12
+#define GANTRY_IMAGE_WORDS(nu, n, nx) (8 + (n) * (n) + (n) * (nx) + 2 * (nu) + 1 + (nx))
+#define GANTRY_IMAGE_BYTES(nu, n, nx) (4 * (size_t)GANTRY_IMAGE_WORDS(nu, n, nx))
+#define GANTRY_STATE_BYTES(nx) (4 * (size_t)(nx))
+#define GANTRY_START_BYTES(n) (4 * (size_t)(n))
+#define GANTRY_ANSWER_BYTES(n) (8 * (size_t)(n))
+/* Large enough for every image: nu 4, n 16, nx 12. */
+#define GANTRY_MAX_IMAGE_BYTES GANTRY_IMAGE_BYTES(4, GANTRY_MAX_COMMANDS, GANTRY_MAX_STATES)
+
+/* The numbers. */
+enum gantry_number {
+    GANTRY_ACCEPTED = 0,
+    GANTRY_BAD_LINE = 1,       /* sheet: a line is not 22 digits 0-9 A-F and byte 10 */
+    GANTRY_WRONG_LINE = 2,     /* sheet: not the kind, row and column due here, or a zero byte of line 01 is not 0 */
+    GANTRY_BAD_SIZE = 3,       /* a size out of its range, or image word 6 or 7 not 0 */
+    GANTRY_BAD_END = 4,        /* sheet: a line missing, or a byte after the last line due */
+    GANTRY_BAD_VALUE = 5,      /* NaN, infinity, a value outside the word, or a negative state limit */
+    GANTRY_BAD_LENGTH = 6,     /* image: fewer than 32 bytes, or not the length that its sizes give */
+    GANTRY_LIMITS_CROSSED = 7, /* a low limit above its high limit */
+    GANTRY_NOT_SYMMETRIC = 8,  /* the cost table is not symmetric */
+    GANTRY_NOT_DOMINANT = 9,   /* a row's diagonal less the other magnitudes is below 1 count */
+    GANTRY_TOO_STEEP = 10,     /* a row's diagonal plus the other magnitudes is above 2^b */
+    GANTRY_BAD_MOMENTUM = 11,  /* the step factor is out of its range, or too small for the table */
+    GANTRY_NO_HEADROOM = 12,   /* an intermediate value could leave the word */
+    GANTRY_BAD_STATE = 13,     /* not nx words, or a value beyond its limit */
+    GANTRY_BAD_START = 14,     /* not n words, or a command outside its limits */
+    GANTRY_BAD_BUFFER = 15     /* the buffer to be written has another length than the answer */
+};
+
+/* Reads a design sheet and writes its image. image_len must be the image's exact length (15), which is known from the
+ * sheet's first line: GANTRY_IMAGE_BYTES. Numbers: 0, 1 to 5, 7 to 12, 15.
+ * An image written here is accepted by the calls below. */
+uint32_t gantry_intake(const uint8_t *sheet, size_t sheet_len, uint8_t *image, size_t image_len);
+
+/* Writes, for each command, the value within its limits nearest zero: 4n bytes. Numbers: 0, 3, 5 to 12, 15.
+ * What it writes is a start that gantry_solve accepts. */
+uint32_t gantry_cold_start(const uint8_t *image, size_t image_len, uint8_t *start, size_t start_len);
+
+/* Runs the image's sweeps from a start and writes 8n bytes: n commands as signed big-endian 32-bit words, then n error
+ * bounds as unsigned ones, both in counts of 2^-b. State and start are signed big-endian 32-bit words.
+ * Numbers: 0, 3, 5 to 15.
+ * With 0, each command lies within its limits, and differs from the command of the exact scheme, which rounds nothing, by
+ * at most its bound. A command is again a valid start. */
+uint32_t gantry_solve(const uint8_t *image, size_t image_len, const uint8_t *state, size_t state_len,
+                      const uint8_t *start, size_t start_len, uint8_t *answer, size_t answer_len);
+
+#ifdef __cplusplus
+}
+#endif
+
+#endif
