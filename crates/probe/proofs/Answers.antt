@@ -1,6 +1,6 @@
 -- What a call writes: accepted words fit their four bytes, and a word's double has a pattern. Assumes nothing.
 use mathlib.Core.Path.{_≡_, refl, sym, ap, _∙_, subst}
-use mathlib.Core.Bool.{Bool, true, false, _&&_, cond, not, false≢true}
+use mathlib.Core.Bool.{Bool, true, false, _&&_, cond, not}
 use mathlib.Core.List.{List, [], _∷_, _++_, append-nil}
 use Prim.Native.Nat.{ℕ, _+_, _/_, _^_}
 use native.Mathlib.Omega.{arith}
@@ -12,6 +12,7 @@ use borrow.Author.Tests.{eqb-true}
 use mir.Syntax.{w32}
 use mir.Val.{SFits, ofZ}
 use Rattle.integer.proofs.Machine.{sfits-abs}
+use Rattle.integer.proofs.Tests.{both}
 use Rattle.word.specs.Buffer.{putAt}
 use Rattle.word.specs.Word.{bytesBE, bytesOf, wordBytes, wordsOut, patternBytes}
 use Rattle.word.specs.Digits.{digitsBE}
@@ -23,10 +24,6 @@ use Rattle.double.specs.Double.{accepted, acceptedLimits, scalable, rounded, ro
 use Rattle.double.specs.declared.Limits.{Limits}
 use Rattle.double.specs.declared.LimitWords.the-variants.{Pair, NoPair}
 use Rattle.double.specs.declared.DoubleAnswer.{DoubleAnswer}
-
-both : (a b : Bool) → a && b ≡ true → (a ≡ true) × (b ≡ true)
-both true b e = (refl, e)
-both false b e = absurd (false≢true e)
 
 -- ---- an accepted word
 pub accepted-fits : (rule : ℤ → ℕ → ℤ) (b w : ℕ) (x : Float) → accepted rule b w x ≡ true → SFits w32 (rounded rule b x)

@@ -1,0 +1,4 @@
+-- What the contracts and the laws of label_text cite.
+pub mod Text
+pub mod Label
+pub mod Examples
