@@ -67,8 +67,8 @@ loop-again c =
       (
         c .before .put-line .kept .0 ∙ l .inv .1 .0,
         ap (take (18 * (l .k + 1))) w
-        ∙ front-put (l .bytes) (lines (a .n) (a .answer .now) (l .k)) (line x y) (18 * l .k) (18 * (l .k + 1)) (l .inv .1 .1) (omega (arith, length-line x y)) (omega arith)
-        ∙ rw (add-one (l .k)),
+            ∙ front-put (l .bytes) (lines (a .n) (a .answer .now) (l .k)) (line x y) (18 * l .k) (18 * (l .k + 1)) (l .inv .1 .1) (omega (arith, length-line x y)) (omega arith)
+            ∙ rw (add-one (l .k)),
       ),
     )
 

@@ -58,8 +58,8 @@ loop-again c =
       (
         c .before .put-nat .kept .0 ∙ l .inv .1 .0,
         ap (take (4 * (l .i + 1))) w
-        ∙ front-put (l .r) (stateWords (l .i) file) (bytesOf n) (4 * l .i) (4 * (l .i + 1)) (l .inv .1 .1) (omega (arith, length-bytes 4 n)) (omega arith)
-        ∙ rw (add-one (l .i)),
+            ∙ front-put (l .r) (stateWords (l .i) file) (bytesOf n) (4 * l .i) (4 * (l .i + 1)) (l .inv .1 .1) (omega (arith, length-bytes 4 n)) (omega arith)
+            ∙ rw (add-one (l .i)),
       ),
     )
 
