@@ -7,7 +7,7 @@
  *
  * What the caller owes: each pointer is valid for its length (for a length of 0 any pointer that is not null will do), the
  * buffer that is written overlaps no other buffer of the call, and no other thread writes to a buffer during the call.
- * The calls keep no state, use no heap, and never fail to return. A solve uses less than 16 KiB of stack.
+ * The calls keep no state, use no heap, and always return. A call uses less than 16 KiB of stack (measured).
  */
 #ifndef GANTRY_H
 #define GANTRY_H
