@@ -24,7 +24,7 @@ pub extern "C" fn gantry_cold_start(image: &[u8], start: &mut [u8]) -> u32
 {
     let number = checks::cold_number(image, start.len());
     if number == 0 {
-        iteration::cold_start(image, start);
+        solve::cold_start(image, start);
     }
     number
 }
@@ -38,7 +38,7 @@ pub extern "C" fn gantry_solve(image: &[u8], state: &[u8], start: &[u8], answer:
 {
     let number = checks::solve_number(image, state, start, answer.len());
     if number == 0 {
-        iteration::solve(image, state, start, answer);
+        solve::solve(image, state, start, answer);
     }
     number
 }

@@ -1,32 +1,31 @@
--- An iteration on arrays is an iteration of the problem that they hold. Assumes nothing.
-use mathlib.Core.Path.{_≡_, sym, ap, _∙_}
-use mathlib.Core.List.{List, []}
-use Prim.Native.Nat.{ℕ, suc, _*_, _^_, _≤_, _<_}
-use native.Mathlib.Nat.{le-trans}
+-- What an iteration computes is small. Assumes nothing.
+use mathlib.Core.List.{List}
+use Prim.Native.Nat.{ℕ, _^_, _≤_}
+use native.Mathlib.Nat.{mul-le-mul, mul-le-mul-right}
 use native.Mathlib.Omega.{arith}
-use lib.Dec.{T}
-use lib.ListN.{length, getD}
-use lib.IntN.{ℤ, pos, natAbs, _-ℤ_}
+use lib.ListN.{getD}
+use lib.IntN.{ℤ, pos, natAbs, _*ℤ_}
+use lib.Pow.{pow-pos}
 use Rattle.integer.specs.Parts.{int}
-use Rattle.integer.specs.Round.{clamp}
+use Rattle.integer.specs.Round.{floor, ceil, clamp}
+use Rattle.integer.proofs.Laws.{abs-mul}
+use Rattle.integer.proofs.Floor.{floor-abs, ceil-least}
 use Rattle.integer.proofs.Parts.{abs!, abs-both, whole}
 use Rattle.integer.proofs.Clamping.{Clamped, raised, lowered, kept, clamped}
-use Rattle.gradient.specs.Problem.{Command, Problem, F, top}
-use Rattle.gradient.specs.Scheme.{Iterate, linear, nextZ, nextY, iterate}
-use Rattle.gradient.specs.Bounds.{Error, width, slack, weight, nextE, nextQ, errorAfter, rangeA}
-use Rattle.gradient.specs.Demand.{ordered, headroom, inputsWithin, startWithin, InRange, Demand3}
-use Rattle.gradient.specs.Sizes.{SizedCommand, Sized}
-use Rattle.gradient.proofs.Index.{sumZ-cong, sumN-cong, unclamped-sum, weight-sum, step-z-at, step-y-at, errorStep-e-at, errorStep-q-at, all1-at}
-use Rattle.gradient.proofs.Lengths.{iterate-z-length, iterate-y-length, error-e-length, error-q-length}
-use Rattle.gradient.proofs.Tests.{headroom-at, start-length}
-use Rattle.gradient.proofs.Demand.{demand3}
-use Rattle.gradient.proofs.Sizes.{F-most, word-abs, width-fits, weight-most, e-fits}
+use Rattle.array.specs.Arrays.{Filled, WordsTo, NatsTo}
 use Rattle.iteration.specs.declared.Terms.{Terms}
-use Rattle.iteration.specs.declared.State.{State}
-use Rattle.iteration.specs.Arrays.{Filled, WordsTo, NatsTo}
-use Rattle.iteration.specs.Sums.{termAt, weightTo}
-use Rattle.iteration.specs.Steps.{unclampedAt, zAt, pointOf, eAt, qAt, Fitting, Ready, Advanced}
-use Rattle.iteration.specs.Tables.{Reached}
+use Rattle.iteration.specs.Steps.{unclampedAt, zAt, eAt, Fitting}
+
+-- a share is no larger than the whole
+pub ceil-most : (n b : ℕ) {k : ℕ} → n ≤ k → ceil n (2 ^ b) ≤ k
+ceil-most n b {k} h = ceil-least (pow-pos b) (omega (arith, mul-le-mul-right k (pow-pos b)))
+
+-- of a factor of at most 21 bits and a word, and what is left of it
+pub factor-size : (k : ℕ) (z : ℤ) → k ≤ 2 ^ 21 → natAbs z ≤ 2 ^ 31 → natAbs (pos k *ℤ z) ≤ 2 ^ 52
+factor-size k z h l = rw (abs-mul (pos k) z) (mul-le-mul h l)
+
+pub kept-size : (p : ℤ) (b : ℕ) → natAbs p ≤ 2 ^ 52 → natAbs (floor p (2 ^ b)) ≤ 2 ^ 52
+kept-size p b h = omega (arith, floor-abs p (pow-pos b) h, ceil-most (2 ^ 52) b {k = 2 ^ 52} (omega arith))
 
 -- ---- what an iteration leaves is small
 -- a clamped number is no larger than the limits
@@ -49,143 +48,3 @@ z-words m {t} y f r i h =
 pub e-nats : (m : List (List ℤ)) {t : Terms} (q : List ℕ) {r : List ℕ} → Fitting t → Filled 0 (t .n) (eAt m t q) r → NatsTo (t .n) r
 unfolding eAt
 e-nats m q f r i h = rw (r .each i h) (omega (arith, f .widths i h))
-
--- ---- the arrays of a problem
-pub nothing : Command
-nothing = record { lower = pos 0; upper = pos 0; row = []; gains = [] }
-
-abbrev pub command : Problem → ℕ → Command
-command p i = getD (p .commands) i nothing
-
--- M and the terms are those of a problem and its inputs
-pub record Represents (p : Problem) (inputs : List ℤ) (m : List (List ℤ)) (t : Terms) : Type 0 where
-  pub n-is : t .n ≡ length (p .commands)
-  pub b-is : t .b ≡ p .b
-  pub momentum-is : t .momentum ≡ p .momentum
-  pub slack-is : t .slack ≡ slack p
-  pub rows : (i : ℕ) → i < length (p .commands) → (j : ℕ) → j < length (p .commands) → getD (getD m i []) j (pos 0) ≡ getD (command p i .row) j (pos 0)
-  pub lowers : (i : ℕ) → i < length (p .commands) → getD (t .lower) i (pos 0) ≡ command p i .lower
-  pub uppers : (i : ℕ) → i < length (p .commands) → getD (t .upper) i (pos 0) ≡ command p i .upper
-  pub widths : (i : ℕ) → i < length (p .commands) → getD (t .width) i 0 ≡ width (command p i)
-  pub linears : (i : ℕ) → i < length (p .commands) → getD (t .linear) i (pos 0) ≡ linear p inputs (command p i)
-  pub small : (i : ℕ) → i < length (p .commands) → natAbs (getD (t .linear) i (pos 0)) ≤ 12 * 2 ^ 58
-
--- what the checks say of a problem, its inputs and a start
-pub record Checked (p : Problem) (inputs start : List ℤ) : Type 0 where
-  pub sized : Sized p
-  pub order : T (ordered p)
-  pub room : T (headroom p)
-  pub inputs-in : T (inputsWithin p inputs)
-  pub starts-in : T (startWithin p start)
-
-module _ {p : Problem} {inputs start : List ℤ} {m : List (List ℤ)} {t : Terms} (rep : Represents p inputs m t) (chk : Checked p inputs start) where
-  of-command : (i : ℕ) → i < length (p .commands) → SizedCommand p (command p i)
-  of-command i h = all1-at (chk .sized .commands-sized) nothing i h
-
-  fitting : Fitting t
-  unfolding slack
-  fitting =
-      let s = chk .sized in
-      let n = rep .n-is in
-      record {
-        few = omega (arith, s .commands-most);
-        low = omega (arith, rep .b-is, s .b-least);
-        high = omega (arith, rep .b-is, s .b-most);
-        momentum-most = omega (arith, rep .momentum-is, s .momentum-most, F-most p s);
-        slack-most = omega (arith, rep .slack-is, s .commands-most, s .inputs-most);
-        lowers = λ i h. let l : i < length (p .commands) = omega arith in rw (rep .lowers i l) (le-trans (word-abs p s _ (of-command i l .lower-word)) (omega arith));
-        uppers = λ i h. let l : i < length (p .commands) = omega arith in rw (rep .uppers i l) (le-trans (word-abs p s _ (of-command i l .upper-word)) (omega arith));
-        linears = λ i h. rep .small i (omega arith);
-        widths = λ i h. let l : i < length (p .commands) = omega arith in rw (rep .widths i l) (width-fits p s (command p i) (of-command i l));
-      }
-
-  -- ---- after k iterations
-  module _ (k : ℕ) (s : State) (at : Reached p inputs start k s) where
-    abbrev N : ℕ
-    N = length (p .commands)
-
-    abbrev I : Iterate
-    I = iterate p inputs start k
-
-    abbrev E : Error
-    E = errorAfter p k
-
-    range : InRange p inputs I
-    unfolding Demand3
-    range = demand3 p inputs start (chk .order) (chk .room) (chk .inputs-in) (chk .starts-in) k .inRange
-
-    starts : length start ≡ N
-    starts = start-length p start (chk .starts-in)
-
-    z-length : length (I .z) ≡ N
-    z-length = iterate-z-length p inputs start starts k
-
-    y-length : length (I .y) ≡ N
-    y-length = iterate-y-length p inputs start starts k
-
-    weights : (i : ℕ) → i < N → weightTo (getD m i []) (s .q) (t .n) ≡ weight (command p i .row) (E .q)
-    unfolding weightTo
-    weights i h =
-        rw (rep .n-is)
-        (sumN-cong _ _ N (λ j l. rw (rep .rows i h j l, at .at-q .each j l))
-        ∙ sym (weight-sum (command p i .row) (E .q) N (of-command i h .row-length) (error-q-length p k)))
-
-    headroom-A : (i : ℕ) → i < N → rangeA p (command p i) ≤ top p
-    headroom-A i h = omega (arith, headroom-at p (chk .room) nothing i h .fitsAB)
-
-    pub ready : Ready m t s
-    ready =
-        let n = rep .n-is in
-        let z = chk .sized in
-        record {
-          terms = fitting;
-          rows = λ i h j l. let a : i < N = omega arith in
-              let b : j < N = omega arith in
-              rw (rep .rows i a j b) (le-trans (word-abs p z _ (all1-at (of-command i a .row-words) (pos 0) j (omega (arith, of-command i a .row-length)))) (omega arith));
-          commands = λ i h. let a : i < N = omega arith in
-              rw (at .at-z .each i a) (le-trans (word-abs p z _ (all1-at (range .z-word) (pos 0) i (omega (arith, z-length)))) (omega arith));
-          points = λ i h. let a : i < N = omega arith in
-              rw (at .at-y .each i a) (le-trans (word-abs p z _ (all1-at (range .y-word) (pos 0) i (omega (arith, y-length)))) (omega arith));
-          errors = λ i h. let a : i < N = omega arith in rw (at .at-e .each i a) (e-fits p z nothing k i a);
-          weights = λ i h. let a : i < N = omega arith in
-              rw (weights i a) (weight-most p z (command p i) (of-command i a) (headroom-A i a) k);
-        }
-
-    -- ---- one more
-    module _ (r : State) (adv : Advanced m t s r) where
-      z-is : (i : ℕ) → i < N → zAt m t (s .y) i ≡ nextZ p inputs (I .y) (command p i)
-      unfolding zAt unclampedAt nextZ termAt F
-      z-is i h =
-          rw (rep .b-is, rep .n-is, rep .lowers i h, rep .uppers i h, rep .linears i h, unclamped-sum p inputs (I .y) (command p i) N (of-command i h .row-length) y-length)
-          (ap (λ (x : ℤ). clamp (command p i .lower) (command p i .upper) (x -ℤ linear p inputs (command p i)))
-          (sumZ-cong _ _ 0 N (λ j l u. rw (rep .rows i h j (omega arith), at .at-y .each j (omega arith)))))
-
-      new-z : (i : ℕ) → i < N → getD (r .z) i (pos 0) ≡ getD (iterate p inputs start (suc k) .z) i (pos 0)
-      unfolding iterate
-      new-z i h = adv .new-z .each i (omega (arith, rep .n-is)) ∙ z-is i h ∙ sym (step-z-at p inputs I nothing (pos 0) i h)
-
-      new-y : (i : ℕ) → i < N → getD (r .y) i (pos 0) ≡ getD (iterate p inputs start (suc k) .y) i (pos 0)
-      unfolding iterate pointOf nextY F
-      new-y i h =
-          adv .new-y .each i (omega (arith, rep .n-is))
-          ∙ rw (rep .b-is, rep .momentum-is, new-z i h, at .at-z .each i h) (sym (step-y-at p inputs I nothing (pos 0) i h (omega (arith, z-length))))
-
-      new-e : (i : ℕ) → i < N → getD (r .e) i 0 ≡ getD (errorAfter p (suc k) .e) i 0
-      unfolding errorAfter eAt nextE F
-      new-e i h =
-          adv .new-e .each i (omega (arith, rep .n-is))
-          ∙ rw (weights i h, rep .b-is, rep .slack-is, rep .widths i h) (sym (errorStep-e-at p E nothing 0 i h))
-
-      new-q : (i : ℕ) → i < N → getD (r .q) i 0 ≡ getD (errorAfter p (suc k) .q) i 0
-      unfolding errorAfter qAt nextQ F
-      new-q i h =
-          adv .new-q .each i (omega (arith, rep .n-is))
-          ∙ rw (rep .b-is, rep .momentum-is, new-e i h, at .at-e .each i h) (sym (errorStep-q-at p E nothing 0 i h (omega (arith, error-e-length p k))))
-
-      pub reached : Reached p inputs start (suc k) r
-      reached = record {
-        at-z = record { sized = adv .new-z .sized; each = new-z };
-        at-y = record { sized = adv .new-y .sized; each = new-y };
-        at-e = record { sized = adv .new-e .sized; each = new-e };
-        at-q = record { sized = adv .new-q .sized; each = new-q };
-      }

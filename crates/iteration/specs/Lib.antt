@@ -1,5 +1,2 @@
--- What the contracts of the iteration cite.
-pub mod Arrays
-pub mod Sums
+-- What the contracts of an iteration cite.
 pub mod Steps
-pub mod Tables

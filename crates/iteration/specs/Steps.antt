@@ -6,15 +6,15 @@ use lib.IntN.{ℤ, pos, natAbs, _-ℤ_}
 use Rattle.integer.specs.Round.{ceil, clamp}
 use Rattle.gradient.specs.Index.{sumZ}
 use Rattle.gradient.specs.Scheme.{product}
+use Rattle.array.specs.Arrays.{Filled, WordsTo, RowsTo, NatsTo}
+use Rattle.dot.specs.Sums.{productAt, weightTo}
 use Rattle.iteration.specs.declared.Terms.{Terms}
 use Rattle.iteration.specs.declared.Rows.{Rows}
 use Rattle.iteration.specs.declared.State.{State}
-use Rattle.iteration.specs.Arrays.{Filled, WordsTo, RowsTo, NatsTo}
-use Rattle.iteration.specs.Sums.{termAt, weightTo}
 
 -- "t = M y − h", "new z = t held to its limits"
 unfoldable pub unclampedAt : List (List ℤ) → Terms → List ℤ → ℕ → ℤ
-unclampedAt m t y i = sumZ (termAt (getD m i []) y (t .b)) 0 (t .n) -ℤ getD (t .linear) i (pos 0)
+unclampedAt m t y i = sumZ (productAt (getD m i []) y (t .b)) 0 (t .n) -ℤ getD (t .linear) i (pos 0)
 
 unfoldable pub zAt : List (List ℤ) → Terms → List ℤ → ℕ → ℤ
 zAt m t y i = clamp (getD (t .lower) i (pos 0)) (getD (t .upper) i (pos 0)) (unclampedAt m t y i)

@@ -24,7 +24,7 @@ use Rattle.image.specs.Tables.{imageNumber}
 use Rattle.image.specs.Accepted.{Accepted}
 use Rattle.image.specs.Calls.{inputsOf, startOf, coldAnswer, callNumber, solveNumber}
 use Rattle.image.proofs.Accept.{accepted, commands-length}
-use Rattle.iteration.proofs.Answers.{cold-fit}
+use Rattle.solve.proofs.Answers.{cold-fit}
 use Rattle.label_text.specs.Text.{isState, stateWords}
 use Rattle.label_text.specs.Label.{stateNumber}
 

@@ -9,7 +9,7 @@ use Rattle.gantry.proofs.gantry_cold_start.Tie as tie
 use Rattle.gantry.proofs.gantry_cold_start.Reads as reads
 use Rattle.gantry.proofs.gantry_cold_start.Lts as lts
 use Rattle.checks.proofs.cold_number.Reads as cold-number-reads
-use Rattle.iteration.proofs.cold_start.Reads as cold-start-reads
+use Rattle.solve.proofs.cold_start.Reads as cold-start-reads
 
 cold-number-requires : tie.Need-cold-number-requires
 cold-number-requires c κs = search needs

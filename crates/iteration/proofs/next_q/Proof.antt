@@ -5,9 +5,9 @@ use Prim.Native.Nat.{ℕ, _+_, _*_, _-_, _^_, _≤_, _<_}
 use native.Mathlib.Nat.{mul-le-mul}
 use lib.ListN.{getD}
 use Rattle.integer.specs.Round.{ceil}
+use Rattle.array.proofs.Filling.{Filling, none, more, full}
 use Rattle.iteration.specs.Steps.{qAt}
-use Rattle.iteration.proofs.Sums.{ceil-most}
-use Rattle.iteration.proofs.Filling.{Filling, none, more, full}
+use Rattle.iteration.proofs.Steps.{ceil-most}
 use Rattle.iteration.proofs.next_q.Statement.{statement}
 use Rattle.iteration.proofs.next_q.Tie as tie
 

@@ -10,9 +10,10 @@ use mir.Facts.{toZ-ofZ}
 use Rattle.integer.specs.Round.{ceil, clamp}
 use Rattle.integer.proofs.Laws.{abs-sub}
 use Rattle.integer.proofs.Machine.{back}
+use Rattle.array.proofs.Filling.{Filling, none, more, full}
+use Rattle.dot.proofs.Sums.{fits}
 use Rattle.iteration.specs.Steps.{unclampedAt, zAt, eAt}
-use Rattle.iteration.proofs.Sums.{fits, ceil-most}
-use Rattle.iteration.proofs.Filling.{Filling, none, more, full}
+use Rattle.iteration.proofs.Steps.{ceil-most}
 use Rattle.iteration.proofs.next_rows.Statement.{statement}
 use Rattle.iteration.proofs.next_rows.Tie as tie
 

@@ -7,8 +7,8 @@ use lib.IntN.{pos}
 use mir.Syntax.{w64}
 use mir.Val.{toZ, ofZ}
 use Rattle.integer.proofs.Machine.{back}
+use Rattle.array.proofs.Filling.{Filling, none, more, full}
 use Rattle.iteration.specs.Steps.{yAt}
-use Rattle.iteration.proofs.Filling.{Filling, none, more, full}
 use Rattle.iteration.proofs.next_y.Statement.{statement}
 use Rattle.iteration.proofs.next_y.Tie as tie
 

@@ -10,8 +10,9 @@ use mir.Facts.{toZ-ofZ, toZ-pos}
 use Rattle.integer.specs.Round.{floor}
 use Rattle.integer.proofs.Laws.{abs-sub}
 use Rattle.integer.proofs.Machine.{back, shl-toZ}
+use Rattle.dot.proofs.Sums.{fits}
 use Rattle.iteration.specs.Steps.{pointOf}
-use Rattle.iteration.proofs.Sums.{fits, factor-size, kept-size}
+use Rattle.iteration.proofs.Steps.{factor-size, kept-size}
 use borrow.Author.Needs.{needs}
 use Rattle.iteration.proofs.point.Statement.{statement}
 use Rattle.iteration.proofs.point.Tie as tie

@@ -1,0 +1,2 @@
+-- The laws that the proofs over arrays share.
+pub mod Filling

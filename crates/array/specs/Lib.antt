@@ -1,0 +1,2 @@
+-- What the contracts of the arrays cite.
+pub mod Arrays

@@ -1,0 +1,2 @@
+-- What the contracts of the tables as arrays cite.
+pub mod Tables

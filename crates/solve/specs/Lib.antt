@@ -1,0 +1,2 @@
+-- What the contracts of a solve and of a cold start cite.
+pub mod Reached
