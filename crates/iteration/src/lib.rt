@@ -1,27 +1,11 @@
-// One iteration on arrays: the new commands and y, and their error bounds.
+// One iteration on arrays: what the rows of M give, then the new y and its error bounds.
 ghost use mathlib.Core.Path.{_≡_};
-ghost use Prim.Native.Nat.{_^_, _≤_, _<_, min};
+ghost use Prim.Native.Nat.{_^_, _≤_, _<_};
 ghost use lib.IntN.{pos, natAbs};
-ghost use Rattle.array.specs.Arrays.{Filled, WordsTo, RowsTo, NatsTo};
-ghost use Rattle.iteration.specs.Steps.{pointOf, yAt, qAt, Fitting, WeightsTo, RowsOf, Ready, Advanced};
-
-// What stays the same over the iterations of a solve, but for M.
-pub struct Terms {
-    pub lower: [i64; 16],
-    pub upper: [i64; 16],
-    pub linear: [i64; 16],
-    pub width: [u64; 16],
-    pub momentum: u64,
-    pub slack: u64,
-    pub n: usize,
-    pub b: u32,
-}
-
-// What an iteration makes of the rows of M.
-pub struct Rows {
-    pub z: [i64; 16],
-    pub e: [u64; 16],
-}
+ghost use Rattle.array.specs.Arrays.{Filled, WordsTo, NatsTo};
+ghost use Rattle.rows.specs.Rows.{Fitting};
+ghost use Rattle.iteration.specs.Steps.{pointOf, yAt, qAt, Ready, Advanced};
+use rows::Terms;
 
 // What one iteration leaves to the next.
 pub struct State {
@@ -56,35 +40,6 @@ fn next_y(t: Terms, new: [i64; 16], old: [i64; 16]) -> [i64; 16]
     r
 }
 
-// The smaller of two bounds.
-fn smaller(a: u64, b: u64) -> u64
-    ensures { λ r. ⌜ r ≡ min a b ⌝ }
-{
-    if a < b {
-        return a;
-    }
-    b
-}
-
-// Row by row: the new commands, which are M y less the linear term, clamped; and their error bounds.
-fn next_rows(m: [[i64; 16]; 16], t: Terms, y: [i64; 16], q: [u64; 16]) -> Rows
-    requires { ⌜ (Fitting t × RowsTo (t .n) m) × (WordsTo (t .n) y × WeightsTo (t .n) m q) ⌝ }
-    ensures { λ r. ⌜ RowsOf m t y q r ⌝ }
-{
-    let n = t.n;
-    let mut z = array::blank();
-    let mut e = array::blank_errors();
-    let mut i = 0;
-    while i < n {
-        let x = dot::dot(&m[i], &y, 0, n, t.b) - t.linear[i];
-        z[i] = integer::clamp(t.lower[i], t.upper[i], x);
-        let w = integer::ceil_div(dot::weight(&m[i], &q, n), t.b) + t.slack;
-        e[i] = smaller(t.width[i], w);
-        i += 1;
-    }
-    Rows { z, e }
-}
-
 // The new error bounds of y.
 fn next_q(t: Terms, new: [u64; 16], old: [u64; 16]) -> [u64; 16]
     requires { ⌜ Fitting t × (NatsTo (t .n) new × NatsTo (t .n) old) ⌝ }
@@ -110,7 +65,7 @@ pub fn advance(m: [[i64; 16]; 16], t: Terms, s: State) -> State
     let old_y = s.y;
     let old_e = s.e;
     let old_q = s.q;
-    let r = next_rows(m, t, old_y, old_q);
+    let r = rows::next_rows(m, t, old_y, old_q);
     let z = r.z;
     let e = r.e;
     let y = next_y(t, z, old_z);

@@ -20,7 +20,7 @@ use Rattle.image.specs.Layout.{sizesOf, boundPlace, gainRow, entryAt, commandAt
 use Rattle.image.specs.Calls.{inputsOf}
 use Rattle.array.specs.Arrays.{Filled, Tabled}
 use Rattle.dot.specs.Sums.{inputTerm}
-use Rattle.iteration.specs.declared.Terms.{Terms}
+use Rattle.rows.specs.declared.Terms.{Terms}
 use Rattle.loading.specs.Tables.{linearAt, TermsOf}
 
 -- a part that goes on to the end

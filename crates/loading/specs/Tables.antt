@@ -11,7 +11,7 @@ use Rattle.image.specs.Sizes.{commandCount}
 use Rattle.image.specs.Layout.{lowerAt, upperAt, momentumAt, commandAt, problemAt}
 use Rattle.image.specs.Calls.{inputsOf}
 use Rattle.array.specs.Arrays.{Filled}
-use Rattle.iteration.specs.declared.Terms.{Terms}
+use Rattle.rows.specs.declared.Terms.{Terms}
 use Rattle.loading.specs.declared.Limits.{Limits}
 
 -- "h = Φ times the state" at command i, and w

@@ -8,7 +8,7 @@ ghost use Rattle.image.specs.Layout.{entryOf, entryAt};
 ghost use Rattle.array.specs.Arrays.{Filled, Tabled};
 ghost use Rattle.loading.specs.Tables.{LimitsOf, LinearOf, TermsOf};
 use image::Sizes;
-use iteration::Terms;
+use rows::Terms;
 
 // The limits of the commands, and high less low.
 pub struct Limits {

@@ -20,8 +20,8 @@ use Rattle.image.specs.Layout.{sizesOf, commandAt, problemOf}
 use Rattle.image.specs.Calls.{inputsOf, startOf, commandsAfter, boundsAfter}
 use Rattle.image.specs.Accepted.{Accepted, Solvable}
 use Rattle.array.specs.Arrays.{Filled}
+use Rattle.rows.proofs.Small.{clamp-most}
 use Rattle.iteration.specs.declared.State.{State}
-use Rattle.iteration.proofs.Steps.{clamp-most}
 use Rattle.loading.proofs.Tables.{nothing, command, command-is, count-is}
 use Rattle.solve.specs.Reached.{coldAt, ReachedOf}
 

@@ -25,9 +25,10 @@ use Rattle.image.specs.Layout.{sizesOf, problemOf}
 use Rattle.image.specs.Calls.{inputsOf, startOf}
 use Rattle.image.specs.Accepted.{Solvable}
 use Rattle.dot.specs.Sums.{productAt, weightTo}
-use Rattle.iteration.specs.declared.Terms.{Terms}
+use Rattle.rows.specs.declared.Terms.{Terms}
+use Rattle.rows.specs.Rows.{unclampedAt, zAt, eAt, Fitting}
 use Rattle.iteration.specs.declared.State.{State}
-use Rattle.iteration.specs.Steps.{unclampedAt, zAt, pointOf, eAt, qAt, Fitting, Ready, Advanced}
+use Rattle.iteration.specs.Steps.{pointOf, qAt, Ready, Advanced}
 use Rattle.loading.proofs.Tables.{nothing, command, Represents, count-is}
 use Rattle.solve.specs.Reached.{Reached, ReachedOf, FirstOf}
 

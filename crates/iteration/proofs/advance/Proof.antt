@@ -1,5 +1,5 @@
 -- `iteration::advance` meets its contract. Assumes nothing.
-use Rattle.iteration.proofs.Steps.{z-words, e-nats}
+use Rattle.rows.proofs.Small.{z-words, e-nats}
 use Rattle.iteration.proofs.advance.Statement.{statement}
 use Rattle.iteration.proofs.advance.Tie as tie
 

@@ -6,8 +6,8 @@ use native.Mathlib.Nat.{mul-le-mul}
 use lib.ListN.{getD}
 use Rattle.integer.specs.Round.{ceil}
 use Rattle.array.proofs.Filling.{Filling, none, more, full}
+use Rattle.rows.proofs.Small.{ceil-most}
 use Rattle.iteration.specs.Steps.{qAt}
-use Rattle.iteration.proofs.Steps.{ceil-most}
 use Rattle.iteration.proofs.next_q.Statement.{statement}
 use Rattle.iteration.proofs.next_q.Tie as tie
 

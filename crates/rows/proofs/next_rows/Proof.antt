@@ -1,4 +1,4 @@
--- `iteration::next_rows` meets its contract. Assumes nothing.
+-- `rows::next_rows` meets its contract. Assumes nothing.
 use native.Mathlib.Omega.{arith}
 use mathlib.Core.Path.{_≡_, ap, _∙_}
 use Prim.Native.Nat.{ℕ, _+_, _*_, _-_, _^_, _≤_, _<_, min}
@@ -12,10 +12,10 @@ use Rattle.integer.proofs.Laws.{abs-sub}
 use Rattle.integer.proofs.Machine.{back}
 use Rattle.array.proofs.Filling.{Filling, none, more, full}
 use Rattle.dot.proofs.Sums.{fits}
-use Rattle.iteration.specs.Steps.{unclampedAt, zAt, eAt}
-use Rattle.iteration.proofs.Steps.{ceil-most}
-use Rattle.iteration.proofs.next_rows.Statement.{statement}
-use Rattle.iteration.proofs.next_rows.Tie as tie
+use Rattle.rows.specs.Rows.{unclampedAt, zAt, eAt}
+use Rattle.rows.proofs.Small.{ceil-most}
+use Rattle.rows.proofs.next_rows.Statement.{statement}
+use Rattle.rows.proofs.next_rows.Tie as tie
 
 abbrev Inv-loop : tie.InvT-loop
 Inv-loop m t y q n z₀ e₀ i₀ z e i = Filling (pos 0) (λ k x. x ≡ zAt m t y k) n i z × Filling 0 (λ k x. x ≡ eAt m t q k) n i e

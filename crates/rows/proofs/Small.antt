@@ -1,0 +1,41 @@
+-- What the rows of M give is small. Assumes nothing.
+use mathlib.Core.List.{List}
+use Prim.Native.Nat.{ℕ, _^_, _≤_}
+use native.Mathlib.Nat.{mul-le-mul-right}
+use native.Mathlib.Omega.{arith}
+use lib.ListN.{getD}
+use lib.IntN.{ℤ, pos, natAbs}
+use lib.Pow.{pow-pos}
+use Rattle.integer.specs.Parts.{int}
+use Rattle.integer.specs.Round.{ceil, clamp}
+use Rattle.integer.proofs.Floor.{ceil-least}
+use Rattle.integer.proofs.Parts.{abs!, abs-both, whole}
+use Rattle.integer.proofs.Clamping.{Clamped, raised, lowered, kept, clamped}
+use Rattle.array.specs.Arrays.{Filled, WordsTo, NatsTo}
+use Rattle.rows.specs.declared.Terms.{Terms}
+use Rattle.rows.specs.Rows.{unclampedAt, zAt, eAt, Fitting}
+
+-- a share is no larger than the whole
+pub ceil-most : (n b : ℕ) {k : ℕ} → n ≤ k → ceil n (2 ^ b) ≤ k
+ceil-most n b {k} h = ceil-least (pow-pos b) (omega (arith, mul-le-mul-right k (pow-pos b)))
+
+-- a clamped number is no larger than the limits
+pub clamp-most : (lower upper t : ℤ) {k : ℕ} → natAbs lower ≤ k → natAbs upper ≤ k → natAbs (clamp lower upper t) ≤ k
+clamp-most lower upper t {k} h l = small (clamped lower upper t)
+  where
+    small : {z : ℤ} → Clamped lower upper t z → natAbs z ≤ k
+    small {z} (raised p e) = rw e h
+    small {z} (lowered p e) = rw e l
+    small {z} (kept p q e) =
+        let a = abs-both (int lower) in
+        let b = abs-both (int upper) in
+        abs! (int z) (omega (arith, whole)) (omega (arith, whole))
+
+pub z-words : (m : List (List ℤ)) {t : Terms} (y : List ℤ) {r : List ℤ} → Fitting t → Filled (pos 0) (t .n) (zAt m t y) r → WordsTo (t .n) r
+unfolding zAt
+z-words m {t} y f r i h =
+    rw (r .each i h) (clamp-most (getD (t .lower) i (pos 0)) (getD (t .upper) i (pos 0)) (unclampedAt m t y i) (f .lowers i h) (f .uppers i h))
+
+pub e-nats : (m : List (List ℤ)) {t : Terms} (q : List ℕ) {r : List ℕ} → Fitting t → Filled 0 (t .n) (eAt m t q) r → NatsTo (t .n) r
+unfolding eAt
+e-nats m q f r i h = rw (r .each i h) (omega (arith, f .widths i h))

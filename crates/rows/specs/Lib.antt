@@ -1,0 +1,2 @@
+-- What the contracts of the rows cite.
+pub mod Rows
