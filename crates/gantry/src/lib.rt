@@ -22,7 +22,7 @@ pub extern "C" fn gantry_cold_start(image: &[u8], start: &mut [u8]) -> u32
     ensures number { λ r. ⌜ r ≡ coldNumber (now (image .entry)) (length (now (start .entry))) ⌝ }
     ensures bytes { λ r. ⌜ now (start .exit) ≡ cond (eqb r 0) (coldAnswer (now (image .entry))) (now (start .entry)) ⌝ }
 {
-    let number = checks::cold_number(image, start.len());
+    let number = calls::cold_number(image, start.len());
     if number == 0 {
         solve::cold_start(image, start);
     }
@@ -36,7 +36,7 @@ pub extern "C" fn gantry_solve(image: &[u8], state: &[u8], start: &[u8], answer:
     ensures bytes { λ r. ⌜ now (answer .exit) ≡ cond (eqb r 0) (solveAnswer (now (image .entry)) (now (state .entry)) (now (start .entry))) (now (answer .entry)) ⌝ }
     ensures guarantee { λ r. ⌜ (r ≡ 0 → Guarantee (now (image .entry)) (now (state .entry)) (now (start .entry)) (now (answer .exit))) ⌝ }
 {
-    let number = checks::solve_number(image, state, start, answer.len());
+    let number = calls::solve_number(image, state, start, answer.len());
     if number == 0 {
         solve::solve(image, state, start, answer);
     }

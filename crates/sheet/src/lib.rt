@@ -296,7 +296,7 @@ fn tables_number(buffer: &mut [u8], words: &[i64]) -> u32
 {
     word::put_words(buffer, words);
     let z = image::sizes_of(buffer);
-    checks::tables_number(buffer, z)
+    tables::tables_number(buffer, z)
 }
 
 // The call: the image of an accepted sheet is written.

@@ -8,7 +8,7 @@ use Rattle.gantry.proofs.gantry_cold_start.Statement.{statement}
 use Rattle.gantry.proofs.gantry_cold_start.Tie as tie
 use Rattle.gantry.proofs.gantry_cold_start.Reads as reads
 use Rattle.gantry.proofs.gantry_cold_start.Lts as lts
-use Rattle.checks.proofs.cold_number.Reads as cold-number-reads
+use Rattle.calls.proofs.cold_number.Reads as cold-number-reads
 use Rattle.solve.proofs.cold_start.Reads as cold-start-reads
 
 cold-number-requires : tie.Need-cold-number-requires

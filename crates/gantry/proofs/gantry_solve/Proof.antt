@@ -10,7 +10,7 @@ use Rattle.gantry.proofs.gantry_solve.Statement.{statement}
 use Rattle.gantry.proofs.gantry_solve.Tie as tie
 use Rattle.gantry.proofs.gantry_solve.Reads as reads
 use Rattle.gantry.proofs.gantry_solve.Lts as lts
-use Rattle.checks.proofs.solve_number.Reads as solve-number-reads
+use Rattle.calls.proofs.solve_number.Reads as solve-number-reads
 use Rattle.solve.proofs.solve.Reads as solve-reads
 
 solve-number-requires : tie.Need-solve-number-requires

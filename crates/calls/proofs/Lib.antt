@@ -1,0 +1,2 @@
+-- The laws of the checks of a call.
+pub mod Within

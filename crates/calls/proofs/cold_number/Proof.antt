@@ -1,0 +1,62 @@
+-- `calls::cold_number` meets its contract. Assumes nothing.
+use native.Mathlib.Omega.{arith}
+use mathlib.Core.Path.{sym, ap, _∙_}
+use Prim.Native.Nat.{_*_}
+use borrow.Author.Tests.{eq-eqb, ne-eqb}
+use Rattle.image.specs.declared.Sizes.{Sizes}
+use Rattle.image.specs.Sizes.{Whole, commandCount}
+use Rattle.image.specs.Layout.{sizesOf}
+use Rattle.image.specs.Calls.{coldNumber}
+use Rattle.image.proofs.Accept.{accepted}
+use Rattle.image.proofs.Ordering.{refused, onward}
+use Rattle.image.proofs.Accept.{whole-of}
+use borrow.Author.Needs.{needs}
+use Rattle.calls.proofs.cold_number.Statement.{statement}
+use Rattle.calls.proofs.cold_number.Tie as tie
+
+-- the image passed
+head : (c : tie.Else1) → Whole (sizesOf (c .before .before .before .args .image .now)) (c .before .before .before .args .image .now)
+head c = accepted (c .before .before .before .args .image .now) (sym (c .before .image-number .ensures) ∙ c .if1 .left) .whole
+
+whole : (c : tie.After-sizes-of) → Whole (c .sizes-of .result) (c .before .before .before .before .args .image .now)
+whole c = whole-of (c .sizes-of .ensures) (head (c .before))
+
+image-number-requires : tie.Need-image-number-requires
+image-number-requires c κs = search needs
+
+returns : tie.Need-returns
+unfolding coldNumber
+returns c = refused _ _ _ (c .before .image-number .ensures) (c .if1 .taken)
+
+sizes-of-requires : tie.Need-sizes-of-requires
+sizes-of-requires c κs = omega (arith, head c .size)
+
+mul-if2 : tie.Need-mul-if2
+mul-if2 c = omega (arith, whole (c .before) .sizes .n-high)
+
+mul-if2-2 : tie.Need-mul-if2-2
+mul-if2-2 c = omega (arith, whole (c .before) .sizes .n-high)
+
+returns-2 : tie.Need-returns-2
+unfolding coldNumber
+returns-2 c =
+    let d = c .before .before in
+    onward _ _ _ _ (d .before .before .image-number .ensures) (d .before .if1 .left) (rw (eq-eqb (d .before .before .before .before .args .room) (4 * commandCount (sizesOf (d .before .before .before .before .args .image .now))) (c .if2 .taken ∙ ap (λ (z : Sizes). 4 * commandCount z) (d .sizes-of .ensures))))
+
+returns-3 : tie.Need-returns-3
+unfolding coldNumber
+returns-3 c =
+    let d = c .before .before in
+    onward _ _ _ _ (d .before .before .image-number .ensures) (d .before .if1 .left) (rw (ne-eqb (d .before .before .before .before .args .room) (4 * commandCount (sizesOf (d .before .before .before .before .args .image .now))) (λ e. c .if2 .left (e ∙ sym (ap (λ (z : Sizes). 4 * commandCount z) (d .sizes-of .ensures))))))
+
+pub cold-number-spec : {M : Type 1} → statement M
+cold-number-spec =
+    tie.close
+    (tie.spec
+    image-number-requires
+    returns
+    sizes-of-requires
+    mul-if2
+    mul-if2-2
+    returns-2
+    returns-3)

@@ -1,0 +1,100 @@
+// The checks of a call, 13 to 15, and the numbers of a solve and of a cold start.
+ghost use mathlib.Core.Path.{_≡_};
+ghost use mathlib.Core.Bool.{_&&_};
+ghost use Prim.Native.Nat.{_*_};
+ghost use lib.ListN.{length};
+ghost use lib.Signed.{leZ};
+ghost use Rattle.gradient.specs.Demand.{inputsWithin, startWithin};
+ghost use Rattle.image.specs.Sizes.{Whole, commandCount};
+ghost use Rattle.image.specs.Layout.{sizesOf, problemAt, lowerAt, upperAt};
+ghost use Rattle.image.specs.Calls.{inputsOf, startOf, callNumber, solveNumber, coldNumber};
+use image::Sizes;
+use magnitudes::size;
+
+// Whether each value of the state is within its limit.
+fn inputs_pass(image: &[u8], z: Sizes, state: &[u8]) -> bool
+    requires { ⌜ Whole z (now image) × (length (now state) ≡ 4 * z .nx) ⌝ }
+    ensures { λ r. ⌜ r ≡ inputsWithin (problemAt z (now (image .entry))) (inputsOf z (now (state .entry))) ⌝ }
+{
+    let count = z.nx;
+    let mut j = 0;
+    while j < count {
+        if size(image::bound_at(image, z, j)) < size(word::word_at(state, 4 * j)) {
+            return false;
+        }
+        j += 1;
+    }
+    true
+}
+
+// Whether x is within the limits of command k.
+fn is_inside(image: &[u8], z: Sizes, k: usize, x: i64) -> bool
+    requires { ⌜ Whole z (now image) ⌝ }
+    ensures { λ r. ⌜ r ≡ leZ (lowerAt z (now (image .entry)) k) x && leZ x (upperAt z (now (image .entry)) k) ⌝ }
+{
+    if image::lower_at(image, z, k) <= x {
+        return x <= image::upper_at(image, z, k);
+    }
+    false
+}
+
+// Whether each command of the start is within its limits.
+fn start_passes(image: &[u8], z: Sizes, start: &[u8]) -> bool
+    requires { ⌜ Whole z (now image) × (length (now start) ≡ 4 * commandCount z) ⌝ }
+    ensures { λ r. ⌜ r ≡ startWithin (problemAt z (now (image .entry))) (startOf z (now (start .entry))) ⌝ }
+{
+    let n = z.nu * z.steps;
+    let mut k = 0;
+    while k < n {
+        if !is_inside(image, z, k, word::word_at(start, 4 * k)) {
+            return false;
+        }
+        k += 1;
+    }
+    true
+}
+
+// Checks 13 to 15, in order.
+pub fn call_number(image: &[u8], state: &[u8], start: &[u8], room: usize) -> u32
+    requires { ⌜ Whole (sizesOf (now image)) (now image) ⌝ }
+    ensures { λ r. ⌜ r ≡ callNumber (now (image .entry)) (now (state .entry)) (now (start .entry)) room ⌝ }
+{
+    let z = image::sizes_of(image);
+    let n = z.nu * z.steps;
+    if state.len() != 4 * z.nx {
+        return 13;
+    }
+    if !inputs_pass(image, z, state) {
+        return 13;
+    }
+    if start.len() != 4 * n {
+        return 14;
+    }
+    if !start_passes(image, z, start) {
+        return 14;
+    }
+    if room == 8 * n { 0 } else { 15 }
+}
+
+// The number of a solve, of an answer of `room` bytes.
+pub fn solve_number(image: &[u8], state: &[u8], start: &[u8], room: usize) -> u32
+    ensures { λ r. ⌜ r ≡ solveNumber (now (image .entry)) (now (state .entry)) (now (start .entry)) room ⌝ }
+{
+    let number = tables::image_number(image);
+    if number != 0 {
+        return number;
+    }
+    call_number(image, state, start, room)
+}
+
+// The number of a cold start, of an answer of `room` bytes.
+pub fn cold_number(image: &[u8], room: usize) -> u32
+    ensures { λ r. ⌜ r ≡ coldNumber (now (image .entry)) room ⌝ }
+{
+    let number = tables::image_number(image);
+    if number != 0 {
+        return number;
+    }
+    let z = image::sizes_of(image);
+    if room == 4 * (z.nu * z.steps) { 0 } else { 15 }
+}

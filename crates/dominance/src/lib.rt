@@ -1,0 +1,75 @@
+// Checks 8 to 10 of a row of H: its symmetry, its margin and its total.
+ghost use mathlib.Core.Path.{_≡_};
+ghost use Prim.Native.Nat.{_^_, _≤_, _<_};
+ghost use lib.IntN.{pos, natAbs};
+ghost use Rattle.image.specs.Sizes.{Whole, commandCount};
+ghost use Rattle.image.specs.Layout.{costAt};
+ghost use Rattle.image.specs.Tables.{eqZ, othersAt, marginAt, totalAt, symmetryTest};
+use image::Sizes;
+use row_sums::Term;
+
+// 2^b.
+pub fn power(b: u32) -> i64
+    requires { ⌜ b ≤ 20 ⌝ }
+    ensures { λ r. ⌜ (r ≡ pos (2 ^ b)) × (natAbs r ≤ 2 ^ 20) ⌝ }
+{
+    1 << b
+}
+
+// The sum of the magnitudes off the diagonal of row i of H. The row is the part of the image that starts at its offset.
+fn others(image: &[u8], z: Sizes, i: usize) -> i64
+    requires { ⌜ Whole z (now image) × (i < commandCount z) ⌝ }
+    ensures { λ r. ⌜ (r ≡ pos (othersAt z (now (image .entry)) i)) × (natAbs r ≤ 2 ^ 35) ⌝ }
+{
+    let n = z.nu * z.steps;
+    let at = image::cost_offset(z, i);
+    row_sums::sum_terms(image, &image[at..], z, Term::Other, i, n) as i64
+}
+
+// Entry j of row i of H.
+fn cost_at(image: &[u8], z: Sizes, i: usize, j: usize) -> i64
+    requires { ⌜ Whole z (now image) × ((i < commandCount z) × (j < commandCount z)) ⌝ }
+    ensures { λ r. ⌜ (r ≡ costAt z (now (image .entry)) i j) × (natAbs r ≤ 2 ^ 31) ⌝ }
+{
+    let at = image::cost_offset(z, i);
+    word::word_at(&image[at..], 4 * j)
+}
+
+// The margin of row i: its diagonal less the others.
+pub fn margin(image: &[u8], z: Sizes, i: usize) -> i64
+    requires { ⌜ Whole z (now image) × (i < commandCount z) ⌝ }
+    ensures { λ r. ⌜ r ≡ marginAt z (now (image .entry)) i ⌝ }
+{
+    cost_at(image, z, i, i) - others(image, z, i)
+}
+
+// The total of row i: its diagonal plus the others.
+pub fn total(image: &[u8], z: Sizes, i: usize) -> i64
+    requires { ⌜ Whole z (now image) × (i < commandCount z) ⌝ }
+    ensures { λ r. ⌜ r ≡ totalAt z (now (image .entry)) i ⌝ }
+{
+    cost_at(image, z, i, i) + others(image, z, i)
+}
+
+// Whether a is c.
+fn is_equal(a: i64, c: i64) -> bool
+    ensures { λ r. ⌜ r ≡ eqZ a c ⌝ }
+{
+    if a <= c { c <= a } else { false }
+}
+
+// Whether row i of H is its column i.
+pub fn is_symmetric(image: &[u8], z: Sizes, i: usize) -> bool
+    requires { ⌜ Whole z (now image) × (i < commandCount z) ⌝ }
+    ensures { λ r. ⌜ r ≡ symmetryTest z (now (image .entry)) i ⌝ }
+{
+    let n = z.nu * z.steps;
+    let mut j = 0;
+    while j < n {
+        if !is_equal(cost_at(image, z, i, j), cost_at(image, z, j, i)) {
+            return false;
+        }
+        j += 1;
+    }
+    true
+}

@@ -1,0 +1,2 @@
+-- The laws of the magnitudes.
+pub mod Bounds

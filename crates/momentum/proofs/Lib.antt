@@ -1,0 +1,3 @@
+-- The laws of check 11.
+pub mod Least
+pub mod Ratio

@@ -1,0 +1,2 @@
+-- The laws of the sums of a row.
+pub mod Rows

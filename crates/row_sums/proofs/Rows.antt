@@ -1,0 +1,93 @@
+-- A row as a part of the image, its terms, and the sums A, B and of the others. Assumes nothing.
+use mathlib.Core.Path.{_≡_, refl, ap, _∙_}
+use mathlib.Core.List.{List}
+use Prim.Native.Nat.{ℕ, _+_, _*_, _-_, _^_, _≤_, _<_}
+use native.Mathlib.Omega.{arith}
+use lib.Dec.{leb}
+use lib.IntN.{pos}
+use lib.ListN.{length, getD, take, drop, length-drop}
+use lib.Seq.{take-all}
+use borrow.Author.Tests.{leb-true}
+use Rattle.integer.proofs.Tests.{both}
+use Rattle.word.specs.Format.{top}
+use Rattle.word.proofs.Format.{top-high}
+use Rattle.gradient.specs.Index.{sumN}
+use Rattle.gradient.specs.Problem.{F}
+use Rattle.gradient.specs.Bounds.{rangeP, rangeY, rangeA, rangeB}
+use Rattle.gradient.proofs.Index.{sumN-cong, rangeA-sum, rangeB-sum, tab-at}
+use Rattle.image.specs.declared.Sizes.{Sizes}
+use Rattle.image.specs.Sizes.{commandCount, Sound}
+use Rattle.image.specs.Layout.{costOffset, gainOffset, entryAt, commandAt, problemAt}
+use Rattle.image.specs.Tables.{pointTest, othersAt}
+use Rattle.image.proofs.Ordering.{all-at}
+use Rattle.image.proofs.Sized.{row-end}
+use Rattle.image.proofs.Accept.{commands-length, command-at, bounds-length, input-bound-at, row-length, gains-length, gain-at}
+use Rattle.row_sums.specs.Terms.{termAt, termRow, termCount, termMost, PointsPass, TermsReady}
+use Rattle.row_sums.specs.declared.Term.{Term}
+use Rattle.row_sums.specs.declared.Term.the-variants.{Other, Range, GainRange}
+
+-- ---- a row
+-- the rest of the image from an offset on
+rest-is : (s : List ℕ) (off : ℕ) → take (length s - off) (drop off s) ≡ drop off s
+rest-is s off = take-all (length s - off) (drop off s) (simp length-drop (omega arith))
+
+pub rest-from : (s : List ℕ) (off at : ℕ) → off ≡ at → take (length s - off) (drop off s) ≡ drop at s
+rest-from s off at e = rest-is s off ∙ ap (λ (k : ℕ). drop k s) e
+
+-- it has every term
+pub term-end : (t : Term) (z : Sizes) (s row : List ℕ) (i j : ℕ) → TermsReady t z s row i → j < termCount t z → 4 * j + 4 ≤ length row
+unfolding termRow termCount
+term-end Other z s row i j r h =
+    omega (arith, ap length (r .part), length-drop (costOffset z i) s, r .whole .size, row-end i (commandCount z) (commandCount z) (r .index))
+term-end Range z s row i j r h =
+    omega (arith, ap length (r .part), length-drop (costOffset z i) s, r .whole .size, row-end i (commandCount z) (commandCount z) (r .index))
+term-end GainRange z s row i j r h =
+    omega (arith, ap length (r .part), length-drop (gainOffset z i) s, r .whole .size, row-end i (commandCount z) (z .nx) (r .index))
+
+-- ---- how many terms, how large they are, and how large their sum
+pub count-most : (t : Term) (z : Sizes) → Sound z → termCount t z ≤ 16
+unfolding termCount
+count-most Other z h = h .n-high
+count-most Range z h = h .n-high
+count-most GainRange z h = omega (arith, h .nx-high)
+
+pub sum-most : (t : Term) (j : ℕ) → j < 16 → j * termMost t + termMost t ≤ 2 ^ 62 + 2 ^ 52
+unfolding termMost
+sum-most Other j h = omega arith
+sum-most Range j h = omega arith
+sum-most GainRange j h = omega arith
+
+-- Y is in the word
+pub point-most : (z : Sizes) (s : List ℕ) (j : ℕ) → Sound z → PointsPass z s → j < commandCount z → rangeY (problemAt z s) (commandAt z s j) ≤ 2 ^ 31
+unfolding pointTest
+point-most z s j sized points h =
+    let r = commandAt z s j in
+    let p = problemAt z s in
+    let t = both (leb (rangeP p r) (top (z .w))) (leb (rangeY p r) (top (z .w))) (all-at (pointTest z s) (commandCount z) j h points) in
+    omega (arith, leb-true (rangeY p r) (top (z .w)) (t .1), top-high (z .w) (sized .w-high))
+
+-- ---- the sums of a row as sums of its terms
+module _ (z : Sizes) (s : List ℕ) (i : ℕ) where
+  pub others-terms : othersAt z s i ≡ sumN (termAt Other z s i) (commandCount z)
+  unfolding othersAt termAt
+  others-terms = sumN-cong _ _ (commandCount z) (λ j l. refl)
+
+  entry-is : (j : ℕ) → j < commandCount z → getD (commandAt z s i .row) j (pos 0) ≡ entryAt z s i j
+  unfolding commandAt
+  entry-is j h = tab-at (entryAt z s i) (commandCount z) j (pos 0) h
+
+  F-is : F (problemAt z s) ≡ 2 ^ z .b
+  unfolding F problemAt
+  F-is = refl
+
+  pub range-terms : rangeA (problemAt z s) (commandAt z s i) ≡ sumN (termAt Range z s i) (commandCount z)
+  unfolding termAt
+  range-terms =
+      rangeA-sum (problemAt z s) (commandAt z s i) (commandAt z s i) (commandCount z) (commands-length z s) (row-length z s i)
+      ∙ sumN-cong _ _ (commandCount z) (λ j l. rw (entry-is j l, command-at z s (commandAt z s i) j l, F-is))
+
+  pub gain-terms : rangeB (problemAt z s) (commandAt z s i) ≡ sumN (termAt GainRange z s i) (z .nx)
+  unfolding termAt
+  gain-terms =
+      rangeB-sum (problemAt z s) (commandAt z s i) (z .nx) (bounds-length z s) (gains-length z s i)
+      ∙ sumN-cong _ _ (z .nx) (λ j l. rw (gain-at z s i j l, input-bound-at z s j l, F-is))

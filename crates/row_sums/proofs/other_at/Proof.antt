@@ -1,0 +1,31 @@
+-- `row_sums::other_at` meets its contract. Assumes nothing.
+use mathlib.Core.Path.{refl, ap, _∙_}
+use Prim.Native.Nat.{zero-le}
+use lib.IntN.{natAbs}
+use borrow.Author.Tests.{eq-eqb, ne-eqb}
+use Rattle.integer.proofs.Machine.{back}
+use borrow.Author.Needs.{needs}
+use Rattle.row_sums.proofs.other_at.Statement.{statement}
+use Rattle.row_sums.proofs.other_at.Tie as tie
+
+returns : tie.Need-returns
+returns c = rw (eq-eqb (c .before .before .args .i) (c .before .before .args .j) (c .if1 .taken)) (refl, zero-le)
+
+mul-word-at : tie.Need-mul-word-at
+mul-word-at c = search needs
+
+word-at-requires : tie.Need-word-at-requires
+word-at-requires c κs = search needs
+
+size-requires : tie.Need-size-requires
+size-requires c κs = search needs
+
+returns-2 : tie.Need-returns-2
+returns-2 c =
+    let w = c .before .word-at in
+    let d = c .before .before in
+    rw (ne-eqb (d .before .before .args .i) (d .before .before .args .j) (d .if1 .left))
+    ((rw (back (w .result) (w .ok)) at (c .size .ensures .0)) ∙ ap natAbs (w .ensures .0), c .size .ensures .1)
+
+pub other-at-spec : {M : Type 1} → statement M
+other-at-spec = tie.close (tie.spec returns mul-word-at word-at-requires size-requires returns-2)

@@ -1,0 +1,144 @@
+-- `row_sums::term_at` meets its contract. Assumes nothing.
+use native.Mathlib.Omega.{arith}
+use mathlib.Core.Path.{_≡_, ap, _∙_}
+use mathlib.Core.Bool.{cond}
+use mathlib.Core.List.{List}
+use Prim.Native.Nat.{ℕ, _+_, _*_, _≤_, _<_}
+use lib.Dec.{eqb}
+use lib.IntN.{natAbs}
+use lib.ListN.{length}
+use lib.Signed.{natAbs-le}
+use Rattle.integer.proofs.Machine.{back}
+use Rattle.word.specs.Word.{wordAt}
+use Rattle.image.specs.Layout.{entryOf, entryAt, gainAt}
+use Rattle.row_sums.specs.Terms.{termAt, termRow, termCount, termMost, TermRoom, TermsReady}
+use Rattle.row_sums.specs.declared.Term.{Term}
+use Rattle.row_sums.specs.declared.Term.the-variants.{Other, Range, GainRange}
+use Rattle.row_sums.proofs.Rows.{term-end, point-most}
+use borrow.Author.Needs.{needs}
+use Rattle.row_sums.proofs.term_at.Statement.{statement}
+use Rattle.row_sums.proofs.term_at.Tie as tie
+
+-- the row has term j
+long : (a : tie.Start) → 4 * a .args .j + 4 ≤ length (a .args .row .now)
+long a = term-end (a .args .t) (a .args .z) (a .args .image .now) (a .args .row .now) (a .args .i) (a .args .j) (a .pre .0) (a .pre .1)
+
+-- what is required, of a term and in an arm
+abbrev Ready : Term → tie.Start → Type 0
+Ready t a = TermsReady t (a .args .z) (a .args .image .now) (a .args .row .now) (a .args .i) × (a .args .j < termCount t (a .args .z))
+
+other-ready : (c : tie.After-enum-told) → Ready Other (c .before .before .before .before)
+other-ready c = rw (c .enum-told .given .1) at (c .before .before .before .before .pre)
+
+range-ready : (c : tie.After-enum-told2) → Ready Range (c .before .before .before .before)
+range-ready c = rw (c .enum-told2 .given .1) at (c .before .before .before .before .pre)
+
+gain-ready : (c : tie.After-enum-told3) → Ready GainRange (c .before .before .before .before)
+gain-ready c = rw (c .enum-told3 .given .1) at (c .before .before .before .before .pre)
+
+enum-told : tie.Need-enum-told
+enum-told c = search needs
+
+other-at-requires : tie.Need-other-at-requires
+other-at-requires c κs = long (c .before .before .before .before)
+
+enum-told-2 : tie.Need-enum-told-2
+enum-told-2 c = search needs
+
+entry-requires : tie.Need-entry-requires
+entry-requires c κs = (omega arith, long (c .before .before .before .before))
+
+range-y-requires : tie.Need-range-y-requires
+range-y-requires c κs = search needs
+
+scaled-requires : tie.Need-scaled-requires
+unfolding TermRoom termCount
+scaled-requires c κs =
+    let d = c .before in
+    let a = d .before .before .before .before .before in
+    let x = d .entry in
+    let r = range-ready (d .before) in
+    rw (back (x .result) (x .ok)) (record {
+      factor = x .ensures .1;
+      most = rw (c .range-y .ensures) (point-most (a .args .z) (a .args .image .now) (a .args .j) (r .0 .whole .sizes) (r .0 .room) (r .1));
+      b-low = r .0 .whole .sizes .b-low;
+      b-high = r .0 .whole .sizes .b-high;
+    })
+
+enum-told-3 : tie.Need-enum-told-3
+enum-told-3 c = search needs
+
+bound-at-requires : tie.Need-bound-at-requires
+unfolding termCount
+bound-at-requires c κs =
+    let r = gain-ready c in
+    (r .0 .whole, r .1)
+
+size-requires : tie.Need-size-requires
+size-requires c κs = search needs
+
+mul-word-at : tie.Need-mul-word-at
+mul-word-at c = omega (arith, long (c .before .before .before .before .before .before))
+
+word-at-requires : tie.Need-word-at-requires
+word-at-requires c κs = long (c .before .before .before .before .before .before)
+
+scaled-requires-2 : tie.Need-scaled-requires-2
+scaled-requires-2 c κs =
+    let w = c .word-at in
+    let a = c .before .before .before .before .before .before .before in
+    rw (back (w .result) (w .ok)) (record {
+      factor = omega (arith, natAbs-le (w .result) (w .ensures .1 .sfits));
+      most = c .before .size .ensures .1;
+      b-low = a .pre .0 .whole .sizes .b-low;
+      b-high = a .pre .0 .whole .sizes .b-high;
+    })
+
+returns : tie.Need-returns
+unfolding termAt termMost termRow
+returns c =
+    let d = c .before in
+    let a = d .before .before .before .before .args in
+    rw (d .enum-told .given .1) (c .other-at .ensures .0 ∙ ap (λ (l : List ℕ). cond (eqb (a .i) (a .j)) 0 (natAbs (wordAt l (4 * a .j)))) (other-ready d .0 .part), c .other-at .ensures .1)
+
+returns-2 : tie.Need-returns-2
+unfolding termAt termMost termRow
+returns-2 c =
+    let d = c .before .before .before in
+    let a = d .before .before .before .before .args in
+    let x = c .before .before .entry in
+    let e : x .result ≡ entryAt (a .z) (a .image .now) (a .i) (a .j) = x .ensures .0 ∙ ap (λ (l : List ℕ). entryOf (a .z .b) l (a .i) (a .j)) (range-ready d .0 .part) in
+    let q = rw (back (x .result) (x .ok)) at (c .scaled .ensures .0) in
+    rw (d .enum-told2 .given .1) (cc (q, e, c .before .range-y .ensures), c .scaled .ensures .1)
+
+returns-3 : tie.Need-returns-3
+unfolding termAt termMost termRow
+returns-3 c =
+    let d = c .before .before .before .before in
+    let a = d .before .before .before .before .args in
+    let w = c .before .word-at in
+    let b = c .before .before .before .bound-at in
+    let e : w .result ≡ gainAt (a .z) (a .image .now) (a .i) (a .j) = w .ensures .0 ∙ ap (λ (l : List ℕ). wordAt l (4 * a .j)) (gain-ready d .0 .part) in
+    let q = rw (back (w .result) (w .ok)) at (c .scaled2 .ensures .0) in
+    let m = rw (back (b .result) (b .ok)) at (c .before .before .size .ensures .0) in
+    rw (d .enum-told3 .given .1) (cc (q, e, m, b .ensures .0), c .scaled2 .ensures .1)
+
+pub term-at-spec : {M : Type 1} → statement M
+term-at-spec =
+    tie.close
+    (tie.spec
+    enum-told
+    other-at-requires
+    enum-told-2
+    entry-requires
+    range-y-requires
+    scaled-requires
+    enum-told-3
+    bound-at-requires
+    size-requires
+    mul-word-at
+    word-at-requires
+    scaled-requires-2
+    returns
+    returns-2
+    returns-3)

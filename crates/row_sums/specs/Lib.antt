@@ -1,0 +1,2 @@
+-- The kinds of sum that the checks of the tables share.
+pub mod Terms

@@ -1,0 +1,63 @@
+-- One loop goes through the terms of a row for each of checks 9, 10 and 12: which term is a parameter, and this page says what each stands
+-- for. Assumes nothing.
+use Prim.Native.Nat.{ℕ, _+_, _*_, _^_, _<_, _≤_}
+use mathlib.Core.Path.{_≡_}
+use mathlib.Core.Bool.{true, cond}
+use mathlib.Core.List.{List}
+use lib.Dec.{eqb}
+use lib.IntN.{ℤ, natAbs}
+use Rattle.integer.specs.Round.{ceil}
+use Rattle.gradient.specs.Bounds.{rangeY}
+use Rattle.image.specs.declared.Sizes.{Sizes}
+use Rattle.image.specs.Order.{allTo}
+use Rattle.image.specs.Sizes.{Whole, commandCount}
+use Rattle.image.specs.Layout.{costRow, gainRow, costAt, gainAt, boundAt, entryAt, commandAt, problemAt}
+use Rattle.image.specs.Tables.{pointTest}
+use Rattle.row_sums.specs.declared.Term.{Term}
+use Rattle.row_sums.specs.declared.Term.the-variants.{Other, Range, GainRange}
+
+-- term j of row i: a magnitude off the diagonal, "|M| × Y / 2^b", "|Φ| × state limit / 2^b"
+unfoldable pub termAt : Term → Sizes → List ℕ → ℕ → ℕ → ℕ
+termAt Other z s i j = cond (eqb i j) 0 (natAbs (costAt z s i j))
+termAt Range z s i j = ceil (natAbs (entryAt z s i j) * rangeY (problemAt z s) (commandAt z s j)) (2 ^ z .b)
+termAt GainRange z s i j = ceil (natAbs (gainAt z s i j) * natAbs (boundAt z s j)) (2 ^ z .b)
+
+-- the row of the image that the terms are of, and how many they are
+unfoldable pub termRow : Term → Sizes → List ℕ → ℕ → List ℕ
+termRow Other z s i = costRow z s i
+termRow Range z s i = costRow z s i
+termRow GainRange z s i = gainRow z s i
+
+unfoldable pub termCount : Term → Sizes → ℕ
+termCount Other z = commandCount z
+termCount Range z = commandCount z
+termCount GainRange z = z .nx
+
+-- how large a term is: a magnitude of a word; a product of two, less b ≥ 4 bits
+unfoldable pub termMost : Term → ℕ
+termMost Other = 2 ^ 31
+termMost Range = 2 ^ 58 + 2 ^ 48
+termMost GainRange = 2 ^ 58 + 2 ^ 48
+
+-- an entry of M or Φ times a bound in the word: the product fits 64 bits
+pub record Scalable (a : ℤ) (x b : ℕ) : Type 0 where
+  pub factor : natAbs a ≤ 2 ^ 31 + 2 ^ 20
+  pub most : x ≤ 2 ^ 31
+  pub b-low : 4 ≤ b
+  pub b-high : b ≤ 20
+
+-- every Y is in the word
+abbrev pub PointsPass : Sizes → List ℕ → Type 0
+PointsPass z s = allTo (pointTest z s) (commandCount z) ≡ true
+
+-- A is summed only once every Y is in the word: the products then fit 64 bits
+unfoldable pub TermRoom : Term → Sizes → List ℕ → Type 0
+TermRoom Other z s = Unit {0}
+TermRoom Range z s = PointsPass z s
+TermRoom GainRange z s = Unit {0}
+
+pub record TermsReady (t : Term) (z : Sizes) (s row : List ℕ) (i : ℕ) : Type 0 where
+  pub whole : Whole z s
+  pub index : i < commandCount z
+  pub part : row ≡ termRow t z s i
+  pub room : TermRoom t z s

@@ -1,0 +1,71 @@
+// The sums of a row: of the magnitudes off the diagonal in 9 and 10, and A and B of 12.
+ghost use mathlib.Core.Path.{_≡_};
+ghost use mathlib.Core.Bool.{cond};
+ghost use Prim.Native.Nat.{_+_, _*_, _^_, _≤_, _<_};
+ghost use lib.Dec.{eqb};
+ghost use lib.IntN.{natAbs};
+ghost use lib.ListN.{length};
+ghost use Rattle.integer.specs.Round.{ceil};
+ghost use Rattle.word.specs.Word.{wordAt};
+ghost use Rattle.gradient.specs.Index.{sumN};
+ghost use Rattle.row_sums.specs.Terms.{termAt, termCount, termMost, Scalable, TermsReady};
+use image::Sizes;
+
+// A term of a row's sum: of the others in 9 and 10, of A and of B.
+pub enum Term {
+    Other,
+    Range,
+    GainRange,
+}
+
+// |a| × x / 2^b, rounded up.
+fn scaled(a: i64, x: u64, b: u32) -> u64
+    requires { ⌜ Scalable a x b ⌝ }
+    ensures { λ r. ⌜ (r ≡ ceil (natAbs a * x) (2 ^ b)) × (r ≤ 2 ^ 58 + 2 ^ 48) ⌝ }
+{
+    integer::ceil_div(integer::magnitude(a) * x, b)
+}
+
+// The magnitude of entry j of row i of H, 0 on the diagonal.
+fn other_at(row: &[u8], i: usize, j: usize) -> u64
+    requires { ⌜ 4 * j + 4 ≤ length (now row) ⌝ }
+    ensures { λ r. ⌜ (r ≡ cond (eqb i j) 0 (natAbs (wordAt (now (row .entry)) (4 * j)))) × (r ≤ 2 ^ 31) ⌝ }
+{
+    if i == j {
+        return 0;
+    }
+    magnitudes::size(word::word_at(row, 4 * j))
+}
+
+// Term j of row i.
+fn term_at(image: &[u8], row: &[u8], z: Sizes, t: Term, i: usize, j: usize) -> u64
+    requires { ⌜ TermsReady t z (now image) (now row) i × (j < termCount t z) ⌝ }
+    ensures { λ r. ⌜ (r ≡ termAt t z (now (image .entry)) i j) × (r ≤ termMost t) ⌝ }
+{
+    match t {
+        Term::Other => other_at(row, i, j),
+        Term::Range => scaled(
+            image::entry(row, z.b, i, j),
+            magnitudes::range_y(image, z, j),
+            z.b,
+        ),
+        Term::GainRange => {
+            let bound = magnitudes::size(image::bound_at(image, z, j));
+            scaled(word::word_at(row, 4 * j), bound, z.b)
+        }
+    }
+}
+
+// The sum of the terms of row i.
+pub fn sum_terms(image: &[u8], row: &[u8], z: Sizes, t: Term, i: usize, count: usize) -> u64
+    requires { ⌜ TermsReady t z (now image) (now row) i × (count ≡ termCount t z) ⌝ }
+    ensures { λ r. ⌜ (r ≡ sumN (termAt t z (now (image .entry)) i) count) × (r ≤ count * termMost t) ⌝ }
+{
+    let mut s: u64 = 0;
+    let mut j = 0;
+    while j < count {
+        s += term_at(image, row, z, t, i, j);
+        j += 1;
+    }
+    s
+}

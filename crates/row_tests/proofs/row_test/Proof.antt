@@ -1,0 +1,105 @@
+-- `row_tests::row_test` meets its contract. Assumes nothing.
+use Rattle.integer.proofs.Machine.{back}
+use Rattle.row_tests.specs.Tests.{testAt}
+use borrow.Author.Needs.{needs}
+use Rattle.row_tests.proofs.row_test.Statement.{statement}
+use Rattle.row_tests.proofs.row_test.Tie as tie
+
+enum-told : tie.Need-enum-told
+enum-told c = search needs
+
+lower-at-requires : tie.Need-lower-at-requires
+lower-at-requires c κs = search needs
+
+upper-at-requires : tie.Need-upper-at-requires
+upper-at-requires c κs = search needs
+
+enum-told-2 : tie.Need-enum-told-2
+enum-told-2 c = search needs
+
+is-symmetric-requires : tie.Need-is-symmetric-requires
+is-symmetric-requires c κs = search needs
+
+enum-told-3 : tie.Need-enum-told-3
+enum-told-3 c = search needs
+
+margin-requires : tie.Need-margin-requires
+margin-requires c κs = search needs
+
+enum-told-4 : tie.Need-enum-told-4
+enum-told-4 c = search needs
+
+total-requires : tie.Need-total-requires
+total-requires c κs = search needs
+
+power-requires : tie.Need-power-requires
+power-requires c κs = search needs
+
+enum-told-5 : tie.Need-enum-told-5
+enum-told-5 c = search needs
+
+point-passes-requires : tie.Need-point-passes-requires
+point-passes-requires c κs = search needs
+
+enum-told-6 : tie.Need-enum-told-6
+enum-told-6 c = search needs
+
+row-passes-requires : tie.Need-row-passes-requires
+row-passes-requires c κs =
+    let a = c .before .before .before in
+    (rw (c .enum-told6 .given .1) at (a .pre .0), a .pre .1)
+
+returns : tie.Need-returns
+unfolding testAt
+returns c =
+    let l = c .before .lower-at in
+    let u = c .upper-at in
+    rw (back (l .result) (l .ok), back (u .result) (u .ok), c .before .before .enum-told .given .1) (cc (l .ensures .0, u .ensures .0))
+
+returns-2 : tie.Need-returns-2
+unfolding testAt
+returns-2 c = rw (c .before .enum-told2 .given .1) (c .is-symmetric .ensures)
+
+returns-3 : tie.Need-returns-3
+unfolding testAt
+returns-3 c = rw (back (c .margin .result) (c .margin .ok), c .before .enum-told3 .given .1) (cc (c .margin .ensures))
+
+returns-4 : tie.Need-returns-4
+unfolding testAt
+returns-4 c =
+    let t = c .before .total in
+    let p = c .power in
+    rw (back (t .result) (t .ok), back (p .result) (p .ok), c .before .before .enum-told4 .given .1) (cc (t .ensures, p .ensures .0))
+
+returns-5 : tie.Need-returns-5
+unfolding testAt
+returns-5 c = rw (c .before .enum-told5 .given .1) (c .point-passes .ensures)
+
+returns-6 : tie.Need-returns-6
+unfolding testAt
+returns-6 c = rw (c .before .enum-told6 .given .1) (c .row-passes .ensures)
+
+pub row-test-spec : {M : Type 1} → statement M
+row-test-spec =
+    tie.close
+    (tie.spec
+    enum-told
+    lower-at-requires
+    upper-at-requires
+    enum-told-2
+    is-symmetric-requires
+    enum-told-3
+    margin-requires
+    enum-told-4
+    total-requires
+    power-requires
+    enum-told-5
+    point-passes-requires
+    enum-told-6
+    row-passes-requires
+    returns
+    returns-2
+    returns-3
+    returns-4
+    returns-5
+    returns-6)

@@ -1,0 +1,2 @@
+-- The kinds of test that the checks of the tables share.
+pub mod Tests
