@@ -5,7 +5,7 @@ ghost use lib.Dec.{eqb};
 ghost use lib.ListN.{length};
 ghost use Rattle.image.specs.Calls.{coldNumber, coldAnswer, solveNumber, solveAnswer};
 ghost use Rattle.image.specs.Demand.{Guarantee};
-ghost use Rattle.sheet.specs.Sheet.{intakeNumber, intakeImage};
+ghost use Rattle.intake.specs.Intake.{intakeNumber, intakeImage};
 
 // Reads a design sheet and writes its image.
 #[no_mangle]
@@ -13,7 +13,7 @@ pub extern "C" fn gantry_intake(sheet: &[u8], image: &mut [u8]) -> u32
     ensures number { λ r. ⌜ r ≡ intakeNumber (now (sheet .entry)) (length (now (image .entry))) ⌝ }
     ensures bytes { λ r. ⌜ now (image .exit) ≡ cond (eqb r 0) (intakeImage (now (sheet .entry))) (now (image .entry)) ⌝ }
 {
-    sheet::intake(sheet, image)
+    intake::intake(sheet, image)
 }
 
 // Writes the start nearest zero.

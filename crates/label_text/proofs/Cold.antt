@@ -25,7 +25,7 @@ use Rattle.image.specs.Accepted.{Accepted}
 use Rattle.image.specs.Calls.{inputsOf, startOf, coldAnswer, callNumber, solveNumber}
 use Rattle.image.proofs.Accept.{accepted, commands-length}
 use Rattle.solve.proofs.Answers.{cold-fit}
-use Rattle.label_text.specs.Text.{isState, stateWords}
+use Rattle.text.specs.Text.{isState, stateWords}
 use Rattle.label_text.specs.Label.{stateNumber}
 
 module _ (image : List ℕ) (ok : Accepted image) where

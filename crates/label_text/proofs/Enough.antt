@@ -8,21 +8,18 @@ use native.Mathlib.Omega.{arith}
 use lib.Dec.{eqb, leb}
 use lib.ListN.{length, take}
 use lib.Seq.{take-all, length-take-le}
-use borrow.Author.Tests.{eqb-true, ne-eqb, leb-true, leb-false}
+use borrow.Author.Tests.{eqb-true, leb-true, leb-false}
 use Rattle.image.specs.Layout.{sizesOf}
 use Rattle.image.proofs.Accept.{accepted}
-use Rattle.sheet.specs.Sheet.{intakeNumber, intakeImage}
-use Rattle.sheet.proofs.Image.{accepted-image}
-use Rattle.sheet.proofs.Reach.{enough-image, enough-number}
-use Rattle.label_text.specs.Text.{isState, refusal}
+use Rattle.sheet.proofs.Reach.{enough-image}
+use Rattle.intake.specs.Intake.{intakeImage, intakeNumber}
+use Rattle.intake.proofs.Laws.{accepted-image, enough-number}
+use Rattle.text.specs.Text.{refusal}
+use Rattle.text.proofs.Written.{not-state}
 use Rattle.label_text.specs.Label.{imageText, labelText}
 use Rattle.label_text.proofs.Printed.{malformed}
 
 -- ---- state.hex: at most 12 words of 8 digits and byte 10
-not-state : (nx : ℕ) (file : List ℕ) → (length file ≡ 8 * nx + 1 → ⊥) → isState nx file ≡ false
-unfolding isState
-not-state nx file h = rw (ne-eqb (length file) (8 * nx + 1) h)
-
 enough-state : (image state : List ℕ) → sizesOf image .nx ≤ 12 → imageText image (take 98 state) ≡ imageText image state
 enough-state image state l = by (leb (length state) 98) refl
   where

@@ -2,23 +2,16 @@
 use mathlib.Core.Path.{_≡_, sym}
 use mathlib.Core.Bool.{true, false}
 use mathlib.Core.List.{List}
-use Prim.Native.Nat.{ℕ, _+_, _*_}
-use lib.Dec.{eqb}
+use Prim.Native.Nat.{ℕ, _*_}
 use lib.ListN.{length}
-use borrow.Author.Tests.{eq-eqb, eqb-true, ne-eqb}
-use Rattle.integer.proofs.Tests.{both}
+use borrow.Author.Tests.{eq-eqb, ne-eqb}
 use Rattle.image.specs.Sizes.{commandCount}
 use Rattle.image.specs.Layout.{sizesOf}
 use Rattle.image.specs.Tables.{imageNumber}
 use Rattle.image.specs.Calls.{coldNumber, coldAnswer, solveNumber, solveAnswer}
-use Rattle.sheet.specs.Sheet.{intakeNumber, intakeImage}
-use Rattle.label_text.specs.Text.{isState, stateWords, lines, refusal}
-use Rattle.label_text.specs.Label.{stateNumber, imageText, labelText}
-
--- a state file has nx words of 8 digits, and one byte more
-pub state-length : (nx : ℕ) (file : List ℕ) → isState nx file ≡ true → length file ≡ 8 * nx + 1
-unfolding isState
-state-length nx file e = eqb-true (length file) (8 * nx + 1) (both (eqb (length file) (8 * nx + 1)) _ e .0)
+use Rattle.intake.specs.Intake.{intakeImage, intakeNumber}
+use Rattle.text.specs.Text.{isState, lines, refusal, stateWords}
+use Rattle.label_text.specs.Label.{imageText, labelText, stateNumber}
 
 -- an accepted image refuses no buffer of its cold start's length
 pub cold-passes : (image : List ℕ) (room : ℕ) → imageNumber image ≡ 0 → room ≡ 4 * commandCount (sizesOf image) → coldNumber image room ≡ 0

@@ -7,9 +7,9 @@ use Rattle.image.specs.Order.{check, firstFault, orElse}
 use Rattle.image.specs.Sizes.{commandCount}
 use Rattle.image.specs.Layout.{sizesOf}
 use Rattle.image.specs.Calls.{coldAnswer, solveNumber, solveAnswer}
-use Rattle.sheet.specs.Sheet.{intakeNumber, intakeImage}
+use Rattle.intake.specs.Intake.{intakeImage, intakeNumber}
+use Rattle.text.specs.Text.{isState, lines, printed, stateWords}
 use Rattle.label_text.specs.declared.Drive.{Drive}
-use Rattle.label_text.specs.Text.{isState, stateWords, lines, printed}
 
 -- the number once an image stands: "anything else is 13", then that of a solve, which "takes the cold start"
 unfoldable pub stateNumber : List ℕ → List ℕ → ℕ

@@ -1,4 +1,2 @@
 -- What the contracts and the laws of label_text cite.
-pub mod Text
 pub mod Label
-pub mod Examples

@@ -1,20 +1,14 @@
 // What the label program prints, from the bytes of its two files.
 ghost use mathlib.Core.Path.{_≡_};
-ghost use Prim.Native.Nat.{_+_, _*_, _≤_, _<_};
+ghost use Prim.Native.Nat.{_*_, _≤_};
 ghost use lib.ListN.{length, take};
-ghost use Rattle.word.specs.Buffer.{putAt};
 ghost use Rattle.image.specs.Sizes.{commandCount};
 ghost use Rattle.image.specs.Layout.{sizesOf};
 ghost use Rattle.image.specs.Tables.{imageNumber};
 ghost use Rattle.image.specs.Calls.{coldAnswer};
-ghost use Rattle.label_text.specs.Text.{isState, stateWords, line, lines, refusal, Holds};
+ghost use Rattle.text.specs.Text.{Holds};
 ghost use Rattle.label_text.specs.Label.{imageText, labelText, ReadDrive};
-
-// A text of at most 16 lines of 18 bytes, in front of the array.
-pub struct Text {
-    pub bytes: [u8; 288],
-    pub length: usize,
-}
+use text::Text;
 
 // The number of a sheet, and with 0 its image in front of the array.
 pub struct Drive {
@@ -23,109 +17,13 @@ pub struct Drive {
     pub image: [u8; 1908],
 }
 
-// Whether a state file holds nx words.
-fn is_state(file: &[u8], nx: usize) -> bool
-    requires { ⌜ nx ≤ 12 ⌝ }
-    ensures { λ r. ⌜ r ≡ isState nx (now (file .entry)) ⌝ }
-{
-    let digits = 8 * nx;
-    if file.len() != digits + 1 {
-        return false;
-    }
-    if file[digits] != 10 {
-        return false;
-    }
-    word::are_hex(file, 0, digits)
-}
-
-// Zeros. As calls, they keep their literals out of the goals.
-fn blank_words() -> [u8; 64]
-    ensures { λ r. ⌜ length r ≡ 64 ⌝ }
-{
-    [0; 64]
-}
-
-fn blank_image() -> [u8; 1908]
-    ensures { λ r. ⌜ length r ≡ 1908 ⌝ }
-{
-    [0; 1908]
-}
-
-fn blank_text() -> [u8; 288]
-    ensures { λ r. ⌜ length r ≡ 288 ⌝ }
-{
-    [0; 288]
-}
-
-// The words of a state file, in front of the array.
-fn state_words(file: &[u8], nx: usize) -> [u8; 64]
-    requires { ⌜ (nx ≤ 12) × (8 * nx ≤ length (now file)) ⌝ }
-    ensures { λ r. ⌜ (length r ≡ 64) × (take (4 * nx) r ≡ stateWords nx (now (file .entry))) ⌝ }
-{
-    let mut r = blank_words();
-    let mut i = 0;
-    while i < nx {
-        word::put_nat(&mut r, 4 * i, word::hex_at(file, 8 * i, 8));
-        i += 1;
-    }
-    r
-}
-
-fn put_line(out: &mut [u8], at: usize, command: u64, bound: u64)
-    requires { ⌜ at + 18 ≤ length (now out) ⌝ }
-    ensures { λ _. ⌜ now (out .exit) ≡ putAt (now (out .entry)) at (line command bound) ⌝ }
-{
-    word::put_hex(out, at, 8, command);
-    out[at + 8] = b' ';
-    word::put_hex(out, at + 9, 8, bound);
-    out[at + 17] = b'\n';
-}
-
-// The lines of an answer: n commands, then their bounds.
-fn lines_of(answer: &[u8], n: usize) -> Text
-    requires { ⌜ (n ≤ 16) × (length (now answer) ≡ 8 * n) ⌝ }
-    ensures { λ r. ⌜ Holds (lines n (now (answer .entry)) n) r ⌝ }
-{
-    let mut bytes = blank_text();
-    let mut k = 0;
-    while k < n {
-        let command = word::nat_at(answer, 4 * k);
-        let bound = word::nat_at(answer, 4 * (n + k));
-        put_line(&mut bytes, 18 * k, command, bound);
-        k += 1;
-    }
-    Text {
-        bytes,
-        length: 18 * n,
-    }
-}
-
-// The line of a refusal.
-fn refusal_of(number: u32) -> Text
-    ensures { λ r. ⌜ Holds (refusal number) r ⌝ }
-{
-    let mut bytes = blank_text();
-    bytes[0] = b'r';
-    bytes[1] = b'e';
-    bytes[2] = b'f';
-    bytes[3] = b'u';
-    bytes[4] = b's';
-    bytes[5] = b'e';
-    bytes[6] = b'd';
-    bytes[7] = b' ';
-    bytes[8] = (48 + number / 10 % 10) as u8;
-    bytes[9] = (48 + number % 10) as u8;
-    bytes[10] = b'\n';
-    Text { bytes, length: 11 }
-}
-
 // Takes a sheet in. Reading it once before tells the image's length, which the intake asks for.
 fn read_drive(drive: &[u8]) -> Drive
     ensures { λ r. ⌜ ReadDrive (now (drive .entry)) r ⌝ }
 {
     let t = sheet::read_sheet(drive);
     let length = 4 * t.count;
-    let mut image = blank_image();
+    let mut image = intake::blank_image();
     let number = gantry::gantry_intake(drive, &mut image[..length]);
     Drive {
         number,
@@ -139,7 +37,7 @@ fn cold_start(image: &[u8], n: usize) -> [u8; 64]
     requires { ⌜ (imageNumber (now image) ≡ 0) × ((n ≡ commandCount (sizesOf (now image))) × (n ≤ 16)) ⌝ }
     ensures { λ r. ⌜ (length r ≡ 64) × (take (4 * n) r ≡ coldAnswer (now (image .entry))) ⌝ }
 {
-    let mut start = blank_words();
+    let mut start = text::blank_words();
     gantry::gantry_cold_start(image, &mut start[..4 * n]);
     start
 }
@@ -151,18 +49,18 @@ fn image_text(image: &[u8], state: &[u8]) -> Text
 {
     let z = image::sizes_of(image);
     let nx = z.nx;
-    if !is_state(state, nx) {
-        return refusal_of(13);
+    if !text::is_state(state, nx) {
+        return text::refusal_of(13);
     }
     let n = z.nu * z.steps;
-    let x = state_words(state, nx);
+    let x = text::state_words(state, nx);
     let start = cold_start(image, n);
-    let mut answer = blank_text();
+    let mut answer = text::blank_text();
     let number = gantry::gantry_solve(image, &x[..4 * nx], &start[..4 * n], &mut answer[..8 * n]);
     if number != 0 {
-        return refusal_of(number);
+        return text::refusal_of(number);
     }
-    lines_of(&answer[..8 * n], n)
+    text::lines_of(&answer[..8 * n], n)
 }
 
 // What the label program prints.
@@ -172,7 +70,7 @@ pub fn label(drive: &[u8], state: &[u8]) -> Text
     let d = read_drive(drive);
     let number = d.number;
     if number != 0 {
-        return refusal_of(number);
+        return text::refusal_of(number);
     }
     let image = d.image;
     let length = d.length;

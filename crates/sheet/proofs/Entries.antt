@@ -1,22 +1,18 @@
 -- Each line of an accepted sheet is the one due, and its word is the rounding of its double. Assumes nothing.
 use mathlib.Core.Path.{_≡_, refl, sym, ap, _∙_, subst}
-use mathlib.Core.Bool.{Bool, true, false, cond, _&&_}
+use mathlib.Core.Bool.{true, _&&_}
 use mathlib.Core.List.{List}
 use mathlib.Core.Logic.{⊎-elim}
 use Prim.Native.Nat.{ℕ, zero, suc, _+_, _-_, _*_, _≤_, _<_}
 use native.Mathlib.Nat.{eq-or-lt-of-le, le-of-suc-le-suc, not-suc-le-zero}
 use native.Mathlib.Omega.{arith}
 use lib.Dec.{eqb, leb, lit<}
-use lib.IntN.{ℤ, pos, negsuc}
-use lib.Ieee.{Float, binary64, ofBits}
+use lib.Ieee.{binary64, ofBits}
 use lib.ListN.{length}
 use borrow.Author.Tests.{eqb-true, leb-true}
 use Rattle.word.specs.Hex.{hexAt}
 use Rattle.word.specs.Word.{wordAt}
-use Rattle.double.specs.Double.{convert, rounded, ruleOf}
-use Rattle.double.specs.declared.Converted.{Converted}
-use Rattle.double.specs.declared.Converted.the-variants.{Word, Refused}
-use Rattle.double.proofs.Convert.{convert-word}
+use Rattle.double.specs.Double.{rounded, ruleOf}
 use Rattle.image.specs.Order.{orElse}
 use Rattle.image.specs.Sizes.{bodyCount, Sound}
 use Rattle.image.specs.Layout.{sizesOf}
@@ -25,14 +21,17 @@ use Rattle.image.proofs.Ordering.{both, none, passed}
 use Rattle.line.specs.Line.{isFrame, lineAt, frameAt}
 use Rattle.line.specs.declared.Line.{Line}
 use Rattle.line.proofs.Laws.{framed, frame-end}
-use Rattle.sheet.specs.declared.Value.{Value}
-use Rattle.sheet.specs.declared.Value.the-variants.{Double, Fault}
-use Rattle.sheet.specs.Sheet.{frameSizes, total, dueAt, roundingOf, notBelowZero, wordOf, isDue, valueOf, valueNumber, valueDouble, lineValue, lineDouble, lineFault, lineWord, first, endNumber, sheetNumber, sheetImage, intakeNumber}
+use Rattle.frame.specs.declared.Value.{Value}
+use Rattle.frame.specs.declared.Value.the-variants.{Double, Fault}
+use Rattle.frame.specs.Frame.{dueAt, frameSizes, isDue, roundingOf, total, valueDouble, valueNumber, valueOf}
+use Rattle.frame.proofs.Sized.{differ, head-sizes, head-sound}
+use Rattle.frame.proofs.Laws.{total-is}
+use Rattle.frame.proofs.Word.{due-double, word-rounded}
 use Rattle.sheet.specs.Laws.{Rounded}
-use Rattle.sheet.proofs.Laws.{total-is}
-use Rattle.sheet.proofs.Step.{fault-none, passed-word}
-use Rattle.sheet.proofs.Answer.{Passing, passing, differ, head-sizes, head-sound}
+use Rattle.sheet.specs.Sheet.{endNumber, first, lineDouble, lineFault, lineValue, lineWord, sheetImage, sheetNumber}
+use Rattle.sheet.proofs.Answer.{Passing, passing}
 use Rattle.sheet.proofs.Image.{image-sizes, image-word}
+use Rattle.sheet.proofs.Step.{fault-none, passed-word}
 
 -- no fault among the first n, and none after them
 first-zero : (f : ℕ → ℕ) (n e : ℕ) → first f n e ≡ 0 → ((k : ℕ) → k < n → f k ≡ 0) × (e ≡ 0)
@@ -43,16 +42,6 @@ first-zero f (suc n) e h =
     (λ k l. ⊎-elim (λ (s : k ≡ n). subst (λ (m : ℕ). f m ≡ 0) (sym s) (q .0)) (λ (m : k < n). p .0 k m) (eq-or-lt-of-le (le-of-suc-le-suc l)), q .1)
 
 -- ---- a line without a fault
-due-double : (t : Bool) (y x : Float) → cond t (Double y) (Fault 2) ≡ Double x → (t ≡ true) × (x ≡ y)
-due-double true y x e = (refl, cc)
-due-double false y x e = absurd (differ (cc))
-
-not-below-word : (t : Bool) (c : Converted) (v : ℤ) → cond t (notBelowZero c) c ≡ Word v → c ≡ Word v
-not-below-word true (Word (pos n)) v e = e
-not-below-word true (Word (negsuc n)) v e = absurd (differ (cc))
-not-below-word true Refused v e = e
-not-below-word false c v e = e
-
 module _ (z : Sizes) (s : List ℕ) (i : ℕ) (f : lineFault z s i ≡ 0) where
   abbrev at : ℕ
   at = 23 * (i + 1)
@@ -73,11 +62,8 @@ module _ (z : Sizes) (s : List ℕ) (i : ℕ) (f : lineFault z s i ≡ 0) where
   line-due = due-double (isDue (dueAt z i) (hexAt 2 s at) (hexAt 2 s (at + 2)) (hexAt 2 s (at + 4))) (ofBits binary64 (hexAt 16 s (at + 6))) (lineDouble z s i) (line-frame .1)
 
   line-rounded : lineWord z s i ≡ rounded (ruleOf (roundingOf (dueAt z i .kind))) (z .b) (lineDouble z s i)
-  unfolding lineFault lineWord wordOf
-  line-rounded =
-      let rule = ruleOf (roundingOf (dueAt z i .kind)) in
-      convert-word rule (z .b) (z .w) (lineDouble z s i)
-      (not-below-word (eqb (dueAt z i .kind) 7) (convert rule (z .b) (z .w) (lineDouble z s i)) _ (passed-word z s i (lineValue z s i) refl f)) .1
+  unfolding lineFault lineWord
+  line-rounded = word-rounded z (dueAt z i .kind) (lineDouble z s i) _ (passed-word z s i (lineValue z s i) refl f)
 
   pub line-facts : wordAt (sheetImage s) (4 * (8 + i)) ≡ lineWord z s i → Rounded z s i
   line-facts w =
@@ -91,10 +77,6 @@ module _ (z : Sizes) (s : List ℕ) (i : ℕ) (f : lineFault z s i ≡ 0) where
       }
 
 -- ---- the sheet
-pub accepted-sheet : (s : List ℕ) (room : ℕ) → intakeNumber s room ≡ 0 → sheetNumber s ≡ 0
-unfolding intakeNumber
-accepted-sheet s room e = none (sheetNumber s) _ e .0
-
 module _ (s : List ℕ) (e : sheetNumber s ≡ 0) where
   abbrev p : Passing s
   p = passing s e

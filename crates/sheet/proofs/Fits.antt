@@ -1,73 +1,42 @@
 -- The words of a sheet are words of its format. Assumes nothing.
 use mathlib.Core.Path.{_≡_, refl, subst}
-use mathlib.Core.Bool.{Bool, true, false, cond, _&&_}
+use mathlib.Core.Bool.{Bool, true, false}
 use mathlib.Core.List.{List, [], _∷_, _++_}
 use Prim.Native.Nat.{ℕ, zero, suc, _+_, _-_, _≤_}
 use native.Mathlib.Nat.{le-of-suc-le-suc, not-suc-le-zero}
 use native.Mathlib.Omega.{arith}
-use lib.IntN.{ℤ, pos, negsuc}
-use lib.Ieee.{Float}
-use lib.Dec.{eqb, ltb}
+use lib.IntN.{ℤ, pos}
+use lib.Dec.{ltb}
 use lib.ListN.{length, getD, length-append, List·getD-append}
 use lib.Seq.{getD-append-add}
 use lib.Signed.{leZ}
-use borrow.Author.Tests.{le-leb, ltb-true, ltb-false}
+use borrow.Author.Tests.{ltb-true, ltb-false}
 use mir.Syntax.{w32}
 use mir.Val.{SFits}
 use Rattle.integer.proofs.Machine.{sfits-abs}
 use Rattle.word.specs.Word.{Words}
-use Rattle.word.specs.Format.{isFormat, top, inWord}
+use Rattle.word.specs.Format.{inWord}
 use Rattle.word.proofs.Format.{top-high, in-word-abs}
-use Rattle.double.specs.Double.{convert, accepted, scalable, rounded, roundUp, ruleOf}
-use Rattle.double.specs.declared.Converted.{Converted}
-use Rattle.double.specs.declared.Converted.the-variants.{Word, Refused}
 use Rattle.gradient.specs.Index.{tab}
 use Rattle.gradient.proofs.Index.{tab-length, tab-at}
 use Rattle.image.specs.Sizes.{Sound}
 use Rattle.image.specs.declared.Sizes.{Sizes}
-use Rattle.sheet.specs.Sheet.{total, roundingOf, notBelowZero, wordOf, convertedWord, dueAt, lineDouble, lineWord, sizeWords, linesWords}
+use Rattle.frame.specs.Frame.{dueAt, total}
+use Rattle.frame.proofs.Word.{limit-in, word-in}
+use Rattle.sheet.specs.Sheet.{lineDouble, lineWord, linesWords, sizeWords}
 
 -- ---- one word
-module _ (w : ℕ) where
-  zero-in : inWord w (pos 0) ≡ true
-  zero-in = le-leb 0 (top w) (omega arith)
-
-  convert-in : (rule : ℤ → ℕ → ℤ) (b : ℕ) (x : Float) → inWord w (convertedWord (convert rule b w x)) ≡ true
-  unfolding accepted
-  convert-in rule b x = by (isFormat b w && scalable b x) (inWord w (rounded rule b x)) refl
-    where
-      by : (p q : Bool) → inWord w (rounded rule b x) ≡ q → inWord w (convertedWord (cond (p && q) (Word (rounded rule b x)) Refused)) ≡ true
-      by true true e = e
-      by true false e = zero-in
-      by false q e = zero-in
-
-  not-below-in : (c : Converted) → inWord w (convertedWord c) ≡ true → inWord w (convertedWord (notBelowZero c)) ≡ true
-  not-below-in (Word (pos n)) h = h
-  not-below-in (Word (negsuc n)) h = zero-in
-  not-below-in Refused h = h
-
-  kind-in : (t : Bool) (c : Converted) → inWord w (convertedWord c) ≡ true → inWord w (convertedWord (cond t (notBelowZero c) c)) ≡ true
-  kind-in true c h = not-below-in c h
-  kind-in false c h = h
-
-  in-fits : (v : ℤ) → w ≤ 32 → inWord w v ≡ true → SFits w32 v
-  in-fits v l h = sfits-abs v (in-word-abs w v h) (top-high w l)
-
-not-negative : (c : Converted) → leZ (pos 0) (convertedWord (notBelowZero c)) ≡ true
-not-negative (Word (pos n)) = le-leb 0 n (omega arith)
-not-negative (Word (negsuc n)) = refl
-not-negative Refused = refl
-
 module _ (z : Sizes) (s : List ℕ) (k : ℕ) where
   pub line-word-in : inWord (z .w) (lineWord z s k) ≡ true
-  unfolding lineWord wordOf
-  line-word-in =
-      let rule = ruleOf (roundingOf (dueAt z k .kind)) in
-      kind-in (z .w) (eqb (dueAt z k .kind) 7) (convert rule (z .b) (z .w) (lineDouble z s k)) (convert-in (z .w) rule (z .b) (lineDouble z s k))
+  unfolding lineWord
+  line-word-in = word-in z (dueAt z k .kind) (lineDouble z s k)
 
   pub state-limit : dueAt z k .kind ≡ 7 → leZ (pos 0) (lineWord z s k) ≡ true
-  unfolding lineWord wordOf
-  state-limit e = rw e (not-negative (convert roundUp (z .b) (z .w) (lineDouble z s k)))
+  unfolding lineWord
+  state-limit e = limit-in z (dueAt z k .kind) (lineDouble z s k) e
+
+in-fits : (w : ℕ) (v : ℤ) → w ≤ 32 → inWord w v ≡ true → SFits w32 v
+in-fits w v l h = sfits-abs v (in-word-abs w v h) (top-high w l)
 
 -- ---- all of them
 low : (n : ℕ) → n ≤ 1000 → SFits w32 (pos n)

@@ -1,48 +1,36 @@
--- The image of a sheet: its sizes, its words, and that the image's own checks pass where the sheet's do. Assumes nothing.
+-- The image of a sheet: its sizes, its words, and that its own checks up to 5 pass where the sheet's do. Assumes nothing.
 use mathlib.Core.Path.{_≡_, sym, ap, _∙_}
 use mathlib.Core.Bool.{true}
-use mathlib.Core.List.{List, [], _∷_, _++_}
-use Prim.Native.Nat.{ℕ, zero, suc, _+_, _*_, _<_}
+use mathlib.Core.List.{List}
+use Prim.Native.Nat.{ℕ, _+_, _*_, _<_}
 use native.Mathlib.Omega.{arith}
-use lib.IntN.{ℤ, pos}
+use lib.IntN.{pos}
 use lib.ListN.{length, getD, List·getD-append}
-use lib.Seq.{getD-append-add, take-at, drop-at}
+use lib.Seq.{getD-append-add}
 use lib.Signed.{leZ}
 use borrow.Author.Tests.{eq-eqb, le-leb}
 use mir.Syntax.{w32}
 use mir.Val.{ofZ}
 use mir.Facts.{fits-ofZ}
-use Rattle.word.specs.Word.{Words, natAt, wordAt, wordBytes, wordsOut}
-use Rattle.word.proofs.Words.{nat-back, nat-drop, length-bytes, length-words, word-of-words}
+use Rattle.word.specs.Word.{natAt, wordAt, wordsOut}
+use Rattle.word.proofs.Words.{length-words, word-of-words, nat-of-words}
 use Rattle.gradient.specs.Index.{tab}
 use Rattle.gradient.proofs.Index.{tab-at}
 use Rattle.image.specs.Order.{allTo}
 use Rattle.image.specs.Sizes.{commandCount, bodyCount, sound, Sound, Whole}
 use Rattle.image.specs.Layout.{sizesOf, boundAt, boundPlace}
 use Rattle.image.specs.Checks.{headNumber, bodyNumber, wordTest, boundTest}
-use Rattle.image.specs.Tables.{imageNumber}
 use Rattle.image.specs.declared.Sizes.{Sizes}
-use Rattle.image.proofs.Ordering.{all-of, none}
-use Rattle.sheet.specs.declared.Due.{Due}
-use Rattle.sheet.specs.Sheet.{total, dueAt, lineWord, sizeWords, linesWords, sheetNumber, sheetImage, ownTables, intakeNumber, intakeImage}
+use Rattle.image.proofs.Ordering.{all-of}
 use Rattle.line.specs.Line.{lineAt}
-use Rattle.sheet.proofs.Laws.{total-is, due-7}
+use Rattle.frame.specs.declared.Due.{Due}
+use Rattle.frame.specs.Frame.{dueAt, total}
+use Rattle.frame.proofs.Sized.{head-sound, head-true}
+use Rattle.frame.proofs.Laws.{due-7, total-is}
+use Rattle.sheet.specs.Sheet.{lineWord, linesWords, sheetImage, sizeWords}
+use Rattle.sheet.proofs.Answer.{Passing}
+use Rattle.sheet.proofs.Fits.{line-word-in, lines-fit, state-limit}
 use Rattle.sheet.proofs.Whole.{long}
-use Rattle.sheet.proofs.Answer.{Passing, passing, head-true, head-sound}
-use Rattle.sheet.proofs.Fits.{lines-fit, line-word-in, state-limit}
-
--- ---- an unsigned word of a list that is written
-nat-of-words : (zs : List ℤ) (i : ℕ) → Words zs → i < length zs → natAt (wordsOut zs) (4 * i) ≡ ofZ w32 (getD zs i (pos 0))
-unfolding wordsOut
-nat-of-words [] i f h = absurd (omega arith)
-nat-of-words (z ∷ zs) zero f h =
-    nat-back 4 (ofZ w32 z) (fits-ofZ (f 0 h) .fits) (wordBytes z ++ wordsOut zs) 0 (take-at (wordBytes z) (wordsOut zs) 4 (length-bytes 4 (ofZ w32 z)))
-nat-of-words (z ∷ zs) (suc i) f h =
-    let e : 4 * suc i ≡ 4 + 4 * i = omega arith in
-    ap (natAt (wordBytes z ++ wordsOut zs)) e
-    ∙ sym (nat-drop 4 (wordBytes z ++ wordsOut zs) 4 (4 * i))
-    ∙ ap (λ (l : List ℕ). natAt l (4 * i)) (drop-at (wordBytes z) (wordsOut zs) 4 (length-bytes 4 (ofZ w32 z)))
-    ∙ nat-of-words zs i (λ j l. f (suc j) (omega arith)) (omega arith)
 
 -- ---- the image of lines with sound sizes
 module _ (z : Sizes) (s : List ℕ) (o : Sound z) where
@@ -51,7 +39,7 @@ module _ (z : Sizes) (s : List ℕ) (o : Sound z) where
 
   size-at : (k : ℕ) → k < 8 → natAt image (4 * k) ≡ ofZ w32 (getD (sizeWords z) k (pos 0))
   size-at k h =
-      nat-of-words (linesWords z s) k (lines-fit z s o) (omega (arith, long z s))
+      nat-of-words (linesWords z s) k (λ j l. fits-ofZ (lines-fit z s o j l) .fits) (omega (arith, long z s))
       ∙ ap (ofZ w32) (List·getD-append (sizeWords z) (tab (lineWord z s) (total z)) (pos 0) k h)
 
   pub line-sizes : sizesOf image ≡ z
@@ -115,17 +103,8 @@ module _ (s : List ℕ) (p : Passing s) where
   pub image-word : (i : ℕ) → i < bodyCount sizes → wordAt (sheetImage s) (4 * (8 + i)) ≡ lineWord sizes s i
   image-word i h = rw image-is (line-word sizes s sound-sizes i h)
 
-  image-number : ownTables (sheetImage s) ≡ 0 → imageNumber (sheetImage s) ≡ 0
-  unfolding imageNumber
-  image-number e =
-      let h : headNumber (sheetImage s) ≡ 0 = rw image-is (line-head sizes s sound-sizes (head-true (lineAt s 0) sizes (p .head))) in
-      let b : bodyNumber (sizesOf (sheetImage s)) (sheetImage s) ≡ 0 = rw (image-sizes, image-is) (line-body sizes s sound-sizes) in
-      rw (h, b) e
+  pub image-head : headNumber (sheetImage s) ≡ 0
+  image-head = rw image-is (line-head sizes s sound-sizes (head-true (lineAt s 0) sizes (p .head)))
 
--- an accepted sheet's image is accepted
-pub accepted-image : (s : List ℕ) (room : ℕ) → intakeNumber s room ≡ 0 → imageNumber (intakeImage s) ≡ 0
-unfolding intakeNumber
-accepted-image s room e =
-    let a = none (sheetNumber s) _ e in
-    let b = none (ownTables (sheetImage s)) _ (a .1) in
-    image-number s (passing s (a .0)) (b .0)
+  pub image-body : bodyNumber (sizesOf (sheetImage s)) (sheetImage s) ≡ 0
+  image-body = rw (image-sizes, image-is) (line-body sizes s sound-sizes)

@@ -12,13 +12,14 @@ use Rattle.image.specs.Order.{orElse}
 use Rattle.image.specs.declared.Sizes.{Sizes}
 use Rattle.line.specs.Line.{lineAt}
 use Rattle.line.proofs.Laws.{line-take, end-take}
-use Rattle.sheet.specs.declared.Head.{Head}
-use Rattle.sheet.specs.declared.Head.the-variants.{Sized, Unsized}
-use Rattle.sheet.specs.declared.Value.{Value}
-use Rattle.sheet.specs.Sheet.{headOf, total, dueAt, wordOf, convertedWord, valueOf, valueNumber, valueDouble, lineValue, lineFault, lineWord, first, endNumber, linesNumber, sizeWords, linesWords, headNumber, headWords, sheetNumber, sheetWords, sheetImage, intakeNumber, intakeImage}
-use Rattle.sheet.specs.Laws.{reachOf, reach}
-use Rattle.sheet.proofs.Laws.{total-high}
-use Rattle.sheet.proofs.Answer.{head-sound}
+use Rattle.frame.specs.declared.Head.{Head}
+use Rattle.frame.specs.declared.Head.the-variants.{Sized, Unsized}
+use Rattle.frame.specs.declared.Value.{Value}
+use Rattle.frame.specs.Frame.{convertedWord, dueAt, headOf, total, valueDouble, valueNumber, valueOf, wordOf}
+use Rattle.frame.proofs.Sized.{head-sound}
+use Rattle.frame.proofs.Laws.{total-high}
+use Rattle.sheet.specs.Laws.{reach, reachOf}
+use Rattle.sheet.specs.Sheet.{endNumber, first, headNumber, headWords, lineFault, lineValue, lineWord, linesNumber, linesWords, sheetImage, sheetNumber, sheetWords, sizeWords}
 
 first-cong : (f g : ℕ → ℕ) (n e d : ℕ) → ((k : ℕ) → k < n → f k ≡ g k) → e ≡ d → first f n e ≡ first g n d
 first-cong f g zero e d h q = q
@@ -83,12 +84,8 @@ module _ (s t : List ℕ) (e : take (reach s) s ≡ take (reach s) t) where
   pub same-number : sheetNumber s ≡ sheetNumber t
   same-number = sym (take-number s (reach s) (omega arith)) ∙ ap sheetNumber e ∙ take-number t (reach s) (omega (arith, same-reach))
 
-  pub same-image : intakeImage s ≡ intakeImage t
+  pub same-image : sheetImage s ≡ sheetImage t
   same-image = sym (take-image s (reach s) (omega arith)) ∙ ap sheetImage e ∙ take-image t (reach s) (omega (arith, same-reach))
-
-  pub same-intake : (room : ℕ) → intakeNumber s room ≡ intakeNumber t room
-  unfolding intakeNumber
-  same-intake room = rw (same-number, same-image)
 
 -- ---- the largest sheet: 470 lines of 23 bytes
 pub reach-most : (s : List ℕ) → reach s ≤ 10811
@@ -101,9 +98,8 @@ reach-most s = by (headOf (lineAt s 0)) refl
 
 -- so that many bytes decide any sheet
 module _ (s : List ℕ) (m : ℕ) (h : 10811 ≤ m) where
-  pub enough-image : intakeImage (take m s) ≡ intakeImage s
-  enough-image = take-image s m (le-trans (reach-most s) h)
+  pub enough-lines : sheetNumber (take m s) ≡ sheetNumber s
+  enough-lines = take-number s m (le-trans (reach-most s) h)
 
-  pub enough-number : (room : ℕ) → intakeNumber (take m s) room ≡ intakeNumber s room
-  unfolding intakeNumber
-  enough-number room = rw (take-number s m (le-trans (reach-most s) h), enough-image)
+  pub enough-image : sheetImage (take m s) ≡ sheetImage s
+  enough-image = take-image s m (le-trans (reach-most s) h)

@@ -3,92 +3,35 @@ use mathlib.Core.Path.{_≡_, refl, sym, ap, _∙_, subst}
 use mathlib.Core.Bool.{Bool, true, false, _&&_, cond, false≢true}
 use mathlib.Core.List.{List}
 use mathlib.Core.Logic.{⊎-elim}
-use Prim.Native.Nat.{ℕ, _+_, _-_, _*_, _≤_, _<_}
+use Prim.Native.Nat.{ℕ, _+_, _-_, _*_, _<_}
 use lib.IntN.{ℤ, pos}
-use lib.Ieee.{Float, nan, ofBits, binary64}
+use lib.Ieee.{Float, nan}
 use native.Mathlib.Nat.{eq-or-lt-of-le, le-of-suc-le-suc}
 use native.Mathlib.Numerals.{add-one}
 use native.Mathlib.Omega.{arith}
-use lib.Dec.{ltb}
 use lib.ListN.{length, getD, set, length-set}
 use lib.Seq.{getD-set-same, getD-set-other}
-use borrow.Author.Tests.{ltb-true, ltb-false}
 use borrow.Author.Count.{below-more}
 use Rattle.line.specs.Line.{lineAt}
 use Rattle.line.specs.declared.Line.{Line}
-use Rattle.line.specs.declared.Line.the-variants.{Frame, Malformed, End}
-use Rattle.double.specs.Double.{convert, convertedNumber, accepted, rounded, roundUp, roundDown, convertLimits}
-use Rattle.double.specs.declared.Converted.{Converted}
+use Rattle.double.specs.Double.{convert, accepted, rounded, roundUp, roundDown, convertLimits}
 use Rattle.double.specs.declared.Converted.the-variants.{Word, Refused}
 use Rattle.double.specs.declared.LimitWords.the-variants.{Pair, NoPair}
 use Rattle.image.specs.declared.Sizes.{Sizes}
-use Rattle.sheet.specs.declared.Due.{Due}
-use Rattle.sheet.specs.declared.Value.{Value}
-use Rattle.sheet.specs.declared.Value.the-variants.{Double, Fault}
 use Rattle.double.specs.declared.Limits.{Limits}
 use Rattle.double.proofs.Convert.{convert-word}
-use Rattle.image.specs.Sizes.{commandCount, Sound}
-use Rattle.sheet.specs.Sheet.{due, dueAt, total, isDue, valueOf, lineValue, lineDouble, lineFault, lineWord, wordOf, valueNumber, valueDouble, convertedWord}
-use Rattle.sheet.specs.Reading.{lowBase, isLow, ReadTo}
-use Rattle.sheet.proofs.Laws.{flat, total-high, due-4, due-5}
-
--- ---- which lines are limits
-
-abbrev pick : (a b c d e f : Bool) (r₁ c₁ r₂ c₂ r₃ r₄ r₅ r₆ : ℕ) → Due
-pick a b c d e f r₁ c₁ r₂ c₂ r₃ r₄ r₅ r₆ =
-    cond a (due 2 r₁ c₁) (cond b (due 3 r₂ c₂) (cond c (due 4 r₃ 0) (cond d (due 5 r₄ 0) (cond e (due 6 r₅ 0) (cond f (due 7 r₆ 0) (due 0 0 0))))))
-
-four : (a b c d e f : Bool) (r₁ c₁ r₂ c₂ r₃ r₄ r₅ r₆ : ℕ) → pick a b c d e f r₁ c₁ r₂ c₂ r₃ r₄ r₅ r₆ .kind ≡ 4 → (b ≡ false) × (c ≡ true) × (a ≡ false)
-four true b c d e f r₁ c₁ r₂ c₂ r₃ r₄ r₅ r₆ h = let x : ⊥ = omega arith in absurd x
-four false true c d e f r₁ c₁ r₂ c₂ r₃ r₄ r₅ r₆ h = let x : ⊥ = omega arith in absurd x
-four false false true d e f r₁ c₁ r₂ c₂ r₃ r₄ r₅ r₆ h = (refl, refl, refl)
-four false false false true e f r₁ c₁ r₂ c₂ r₃ r₄ r₅ r₆ h = let x : ⊥ = omega arith in absurd x
-four false false false false true f r₁ c₁ r₂ c₂ r₃ r₄ r₅ r₆ h = let x : ⊥ = omega arith in absurd x
-four false false false false false true r₁ c₁ r₂ c₂ r₃ r₄ r₅ r₆ h = let x : ⊥ = omega arith in absurd x
-four false false false false false false r₁ c₁ r₂ c₂ r₃ r₄ r₅ r₆ h = let x : ⊥ = omega arith in absurd x
-
-five : (a b c d e f : Bool) (r₁ c₁ r₂ c₂ r₃ r₄ r₅ r₆ : ℕ) → pick a b c d e f r₁ c₁ r₂ c₂ r₃ r₄ r₅ r₆ .kind ≡ 5 → (b ≡ false) × (c ≡ false) × (a ≡ false) × (d ≡ true)
-five true b c d e f r₁ c₁ r₂ c₂ r₃ r₄ r₅ r₆ h = let x : ⊥ = omega arith in absurd x
-five false true c d e f r₁ c₁ r₂ c₂ r₃ r₄ r₅ r₆ h = let x : ⊥ = omega arith in absurd x
-five false false true d e f r₁ c₁ r₂ c₂ r₃ r₄ r₅ r₆ h = let x : ⊥ = omega arith in absurd x
-five false false false true e f r₁ c₁ r₂ c₂ r₃ r₄ r₅ r₆ h = (refl, refl, refl, refl)
-five false false false false true f r₁ c₁ r₂ c₂ r₃ r₄ r₅ r₆ h = let x : ⊥ = omega arith in absurd x
-five false false false false false true r₁ c₁ r₂ c₂ r₃ r₄ r₅ r₆ h = let x : ⊥ = omega arith in absurd x
-five false false false false false false r₁ c₁ r₂ c₂ r₃ r₄ r₅ r₆ h = let x : ⊥ = omega arith in absurd x
-
-pub low-due : (z : Sizes) (i : ℕ) → isLow z i → dueAt z i ≡ due 4 (i - lowBase z) 0
-unfolding lowBase
-low-due z i l = sym (due-4 z i (omega arith) (omega arith) (omega arith)) ∙ ap (λ (r : ℕ). due 4 r 0) (omega arith)
-
-pub high-due : (z : Sizes) (i : ℕ) → lowBase z + z .nu ≤ i → i < lowBase z + z .nu + z .nu → dueAt z i ≡ due 5 (i - lowBase z - z .nu) 0
-unfolding lowBase
-high-due z i h l = sym (due-5 z i (omega arith) (omega arith) (omega arith) (omega arith)) ∙ ap (λ (r : ℕ). due 5 r 0) (omega arith)
-
-pub low-of : (z : Sizes) (i : ℕ) → dueAt z i .kind ≡ 4 → isLow z i
-unfolding lowBase
-low-of z i h =
-    let n = commandCount z in
-    let p = four (ltb i (n * n)) (ltb (i - n * n) (n * z .nx)) (ltb (i - n * n - n * z .nx) (z .nu)) (ltb (i - n * n - n * z .nx - z .nu) (z .nu)) (ltb (i - n * n - n * z .nx - z .nu - z .nu) 1) (ltb (i - n * n - n * z .nx - z .nu - z .nu - 1) (z .nx)) _ _ _ _ _ _ _ _ (rw flat at h) in
-    omega (arith, ltb-false i (n * n) (p .2), ltb-false (i - n * n) (n * z .nx) (p .0), ltb-true (i - n * n - n * z .nx) (z .nu) (p .1))
-
-pub high-of : (z : Sizes) (i : ℕ) → dueAt z i .kind ≡ 5 → (lowBase z + z .nu ≤ i) × (i < lowBase z + z .nu + z .nu)
-unfolding lowBase
-high-of z i h =
-    let n = commandCount z in
-    let p = five (ltb i (n * n)) (ltb (i - n * n) (n * z .nx)) (ltb (i - n * n - n * z .nx) (z .nu)) (ltb (i - n * n - n * z .nx - z .nu) (z .nu)) (ltb (i - n * n - n * z .nx - z .nu - z .nu) 1) (ltb (i - n * n - n * z .nx - z .nu - z .nu - 1) (z .nx)) _ _ _ _ _ _ _ _ (rw flat at h) in
-    omega (arith, ltb-false i (n * n) (p .2), ltb-false (i - n * n) (n * z .nx) (p .0), ltb-false (i - n * n - n * z .nx) (z .nu) (p .1), ltb-true (i - n * n - n * z .nx - z .nu) (z .nu) (p .3))
+use Rattle.image.specs.Sizes.{Sound}
+use Rattle.frame.specs.declared.Due.{Due}
+use Rattle.frame.specs.declared.Value.{Value}
+use Rattle.frame.specs.declared.Value.the-variants.{Double, Fault}
+use Rattle.frame.specs.Frame.{convertedWord, dueAt, isLow, lowBase, total, valueDouble, valueNumber, valueOf, wordOf}
+use Rattle.frame.proofs.Laws.{total-high}
+use Rattle.frame.proofs.Limits.{high-due, high-of, low-due, low-of}
+use Rattle.frame.proofs.Word.{fault-some, is-word, kind-4, kind-5}
+use Rattle.sheet.specs.Reading.{ReadTo}
+use Rattle.sheet.specs.Sheet.{lineDouble, lineFault, lineValue, lineWord}
 
 -- ---- what a line holds
-
-none : (b : Bool) (x : Float) (n : ℕ) → cond b (Double x) (Fault 2) ≡ Fault n → n ≡ 0 → ⊥
-none true x n e q = let u : _≡_ {A = ℕ} 0 1 = cc in omega arith
-none false x n e q = let u : n ≡ 2 = cc in omega arith
-
-pub fault-some : (d : Due) (l : Line) (n : ℕ) → valueOf d l ≡ Fault n → n ≡ 0 → ⊥
-fault-some d End n e q = let u : n ≡ 4 = cc in omega arith
-fault-some d Malformed n e q = let u : n ≡ 1 = cc in omega arith
-fault-some d (Frame k r c b) n e q = none (isDue d k r c) (ofBits binary64 b) n e q
-
 module _ (z : Sizes) (s : List ℕ) (i : ℕ) where
   pub value-is : (g : Value) (d : Due) (l : Line) → g ≡ valueOf d l → d ≡ dueAt z i → l ≡ lineAt s (23 * (i + 1)) → lineValue z s i ≡ g
   unfolding lineValue
@@ -111,26 +54,14 @@ module _ (z : Sizes) (s : List ℕ) (i : ℕ) where
   fault-refused x e h = rw (e, h)
 
 -- ---- both limits of a motor
-is-word : (c : Converted) → convertedNumber c ≡ 0 → c ≡ Word (convertedWord c)
-is-word (Word v) h = refl
-is-word Refused h = let x : ⊥ = omega arith in absurd x
-
 module _ (z : Sizes) (s : List ℕ) (k : ℕ) where
   pub passed-word : (g : Value) → lineValue z s k ≡ g → valueNumber z (dueAt z k .kind) g ≡ 0 → wordOf z (dueAt z k .kind) (valueDouble g) ≡ Word (convertedWord (wordOf z (dueAt z k .kind) (valueDouble g)))
   passed-word (Double x) e h = is-word (wordOf z (dueAt z k .kind) x) h
   passed-word (Fault n) e h = absurd (fault-none z s k n e h)
 
-  kind-4 : (x : Float) → dueAt z k .kind ≡ 4 → wordOf z (dueAt z k .kind) x ≡ convert roundUp (z .b) (z .w) x
-  unfolding wordOf
-  kind-4 x h = rw h
-
-  pub kind-5 : (x : Float) → dueAt z k .kind ≡ 5 → wordOf z (dueAt z k .kind) x ≡ convert roundDown (z .b) (z .w) x
-  unfolding wordOf
-  kind-5 x h = rw h
-
   pub low-word : isLow z k → lineFault z s k ≡ 0 → convert roundUp (z .b) (z .w) (lineDouble z s k) ≡ Word (lineWord z s k)
   unfolding lineFault lineWord
-  low-word l f = sym (kind-4 (lineDouble z s k) (ap (λ (d : Due). d .kind) (low-due z k l))) ∙ passed-word (lineValue z s k) refl f
+  low-word l f = sym (kind-4 z (dueAt z k .kind) (lineDouble z s k) (ap (λ (d : Due). d .kind) (low-due z k l))) ∙ passed-word (lineValue z s k) refl f
 
 -- what the pair of words says of the two tests
 pair-both : (p q : Bool) {u v a b : ℤ} → Pair a b ≡ cond (p && q) (Pair u v) NoPair → (p ≡ true) × (q ≡ true) × (a ≡ u) × (b ≡ v)
@@ -158,13 +89,13 @@ module _ (z : Sizes) (s : List ℕ) (i : ℕ) (ws : List ℤ) (ls : List Float) 
   pub pair-words : (a b : ℤ) → Pair a b ≡ convertLimits (z .b) (z .w) limits → (lineWord z s (i - z .nu) ≡ a) × (lineWord z s i ≡ b) × (lineFault z s i ≡ 0)
   pair-words a b e =
       let p = pair-both (accepted roundUp (z .b) (z .w) (getD ls row nan)) (accepted roundDown (z .b) (z .w) x) e in
-      let w = fault-word z s i x (rounded roundDown (z .b) x) g (kind-5 z s i x k5 ∙ rw (p .1)) in
+      let w = fault-word z s i x (rounded roundDown (z .b) x) g (kind-5 z (dueAt z i .kind) x k5 ∙ rw (p .1)) in
       (convert-word roundUp (z .b) (z .w) (getD ls row nan) lower .1 ∙ sym (p .2), w .1 ∙ sym (p .3), w .0)
 
   pub pair-fault : NoPair ≡ convertLimits (z .b) (z .w) limits → lineFault z s i ≡ 5
   pair-fault e =
       let q = pair-none (accepted roundUp (z .b) (z .w) (getD ls row nan)) (accepted roundDown (z .b) (z .w) x) _ _ e (convert-word roundUp (z .b) (z .w) (getD ls row nan) lower .0) in
-      fault-refused z s i x g (kind-5 z s i x k5 ∙ rw q)
+      fault-refused z s i x g (kind-5 z (dueAt z i .kind) x k5 ∙ rw q)
 
 -- ---- the line is read
 abbrev nil : Float

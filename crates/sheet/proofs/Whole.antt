@@ -17,9 +17,10 @@ use Rattle.gradient.proofs.Index.{tab-length, tab-at}
 use Rattle.image.specs.Sizes.{Sound}
 use Rattle.image.specs.declared.Sizes.{Sizes}
 use Rattle.image.specs.Order.{orElse}
-use Rattle.sheet.specs.Sheet.{total, lineFault, lineWord, sizeWords, first, endNumber, linesNumber, linesWords}
-use Rattle.sheet.specs.Reading.{lowBase, isLow, ReadTo, Answered}
-use Rattle.sheet.proofs.Laws.{total-is, total-high}
+use Rattle.frame.specs.Frame.{isLow, lowBase, total}
+use Rattle.frame.proofs.Laws.{total-high, total-is}
+use Rattle.sheet.specs.Reading.{Answered, ReadTo}
+use Rattle.sheet.specs.Sheet.{endNumber, first, lineFault, lineWord, linesNumber, linesWords, sizeWords}
 
 -- ---- the first fault
 module _ (f : ℕ → ℕ) where

@@ -1,30 +1,17 @@
 -- What the laws of a sheet state. Definitions only.
-use Prim.Native.Nat.{ℕ, zero, suc, _+_, _*_}
+use Prim.Native.Nat.{ℕ, _+_, _*_}
 use mathlib.Core.Path.{_≡_}
-use mathlib.Core.List.{List, [], _∷_, _++_}
+use mathlib.Core.List.{List}
 use lib.Ieee.{binary64, ofBits}
 use Rattle.word.specs.Hex.{hexAt}
 use Rattle.word.specs.Word.{wordAt}
 use Rattle.double.specs.Double.{rounded, ruleOf}
-use Rattle.gradient.specs.Index.{tab}
 use Rattle.image.specs.declared.Sizes.{Sizes}
 use Rattle.line.specs.Line.{lineAt}
-use Rattle.sheet.specs.declared.Due.{Due}
-use Rattle.sheet.specs.declared.Head.{Head}
-use Rattle.sheet.specs.declared.Head.the-variants.{Sized, Unsized}
-use Rattle.sheet.specs.Sheet.{Table, due, dueAt, total, roundingOf, headOf, sheetImage}
-
--- ---- the lines due, written out
-
--- the lines of one table, "rows outermost, all counted from 0"
-abbrev pub tableLines : ℕ → ℕ → ℕ → List Due
-tableLines kind zero columns = []
-tableLines kind (suc row) columns = tableLines kind row columns ++ tab (λ (column : ℕ). due kind row column) columns
-
--- "order of the lines": table after table
-abbrev pub tablesLines : List Table → List Due
-tablesLines [] = []
-tablesLines (t ∷ ts) = tableLines (t .kind) (t .rows) (t .columns) ++ tablesLines ts
+use Rattle.frame.specs.declared.Head.{Head}
+use Rattle.frame.specs.declared.Head.the-variants.{Sized, Unsized}
+use Rattle.frame.specs.Frame.{dueAt, headOf, roundingOf, total}
+use Rattle.sheet.specs.Sheet.{sheetImage}
 
 -- ---- a line and its word
 

@@ -1,22 +1,13 @@
 -- What the code holds while it reads a sheet, and what it answers. Definitions only.
-use Prim.Native.Nat.{ℕ, _+_, _*_, _≤_, _<_}
+use Prim.Native.Nat.{ℕ, _+_, _≤_, _<_}
 use mathlib.Core.Path.{_≡_}
 use mathlib.Core.List.{List}
 use lib.ListN.{length, getD, take}
 use lib.IntN.{ℤ, pos}
 use lib.Ieee.{Float, nan}
-use Rattle.image.specs.Sizes.{commandCount, Whole}
-use Rattle.image.specs.Layout.{sizesOf}
 use Rattle.image.specs.declared.Sizes.{Sizes}
-use Rattle.word.specs.Word.{Words, wordsOut}
-use Rattle.sheet.specs.Sheet.{lineFault, lineWord, lineDouble, sizeWords}
-
--- the first line of a low limit among those after line 01
-unfoldable pub lowBase : Sizes → ℕ
-lowBase z = commandCount z * commandCount z + commandCount z * z .nx
-
-abbrev pub isLow : Sizes → ℕ → Type 0
-isLow z k = (lowBase z ≤ k) × (k < lowBase z + z .nu)
+use Rattle.frame.specs.Frame.{isLow, lowBase}
+use Rattle.sheet.specs.Sheet.{lineDouble, lineFault, lineWord, sizeWords}
 
 -- i lines are read: every word stands in the array but the lows whose high is still to come, and these are kept as doubles
 pub record ReadTo (z : Sizes) (s : List ℕ) (i : ℕ) (words : List ℤ) (lows : List Float) : Type 0 where
@@ -34,8 +25,3 @@ pub record Answered (number-due : ℕ) (words-due : List ℤ) (number count : �
   pub words-are : number ≡ 0 → take count words ≡ words-due
   pub count-is : number ≡ 0 → count ≡ length words-due
   pub count-high : count ≤ 477
-
--- words that make an image
-pub record ImageWords (words : List ℤ) : Type 0 where
-  pub fit : Words words
-  pub whole : Whole (sizesOf (wordsOut words)) (wordsOut words)

@@ -4,26 +4,23 @@ use mathlib.Core.List.{List, [], _∷_, _++_, map}
 use Prim.Native.Nat.{ℕ}
 use lib.ListN.{set, take}
 use lib.Ieee.{ofBits}
-use Rattle.integer.specs.Round.{floor, ceil}
+use Rattle.integer.specs.Round.{floor}
 use Rattle.word.specs.Digits.{numberBE, digitsBE}
 use Rattle.word.specs.Hex.{isHex, digitOf, hexes, hexAt, digitByte, hexDigits}
-use Rattle.word.specs.Word.{natBE, bytesBE, wordsAt, wordsOut}
+use Rattle.word.specs.Word.{bytesBE, wordsOut}
 use Rattle.double.specs.Double.{scalable, rounded, accepted}
-use Rattle.gradient.specs.Problem.{F, top}
-use Rattle.gradient.specs.Bounds.{magnitude, width, rangeP, rangeY, rangeA, rangeB}
 use Rattle.image.specs.Sizes.{sound}
-use Rattle.image.specs.Layout.{sizesOf, lowerAt, upperAt, momentumAt, boundAt, entryOf, commandAt, problemAt}
-use Rattle.image.specs.Tables.{symmetryTest, othersAt, marginAt, totalAt, leastMargin, largestTotal, momentumRange, momentumRatio, pointTest, rowTest, tablesNumber}
 use Rattle.line.specs.Line.{lineAt}
-use Rattle.sheet.specs.Sheet.{headOf, total, dueAt, wordOf, lineValue, lineFault, lineWord, sheetNumber, sheetWords, sheetImage, intakeNumber, intakeImage}
+use Rattle.frame.specs.Frame.{dueAt, headOf, total, wordOf}
+use Rattle.sheet.specs.Sheet.{lineFault, lineValue, lineWord, sheetImage, sheetNumber, sheetWords}
 
 -- a text of frames, "22 hexadecimal digits .., then byte 10" each
-abbrev text : List ℕ → List ℕ
+abbrev pub text : List ℕ → List ℕ
 text [] = []
 text (n ∷ ns) = hexDigits 22 n ++ (10 ∷ text ns)
 
 -- "this sheet, S"
-abbrev lines : List ℕ
+abbrev pub lines : List ℕ
 lines =
     0x0101010104080000030000
     ∷ 0x0200003FE0000000000000
@@ -35,11 +32,11 @@ lines =
     ∷ []
 
 -- S with line k changed
-abbrev changed : ℕ → ℕ → List ℕ
+abbrev pub changed : ℕ → ℕ → List ℕ
 changed k n = text (set lines k n)
 
 -- its image, 56 bytes
-image-S : intakeImage (text lines) ≡
+image-S : sheetImage (text lines) ≡
     0 ∷ 0 ∷ 0 ∷ 1 ∷ 0 ∷ 0 ∷ 0 ∷ 1 ∷ 0 ∷ 0 ∷ 0 ∷ 1 ∷ 0 ∷ 0 ∷ 0 ∷ 4 ∷ 0 ∷ 0 ∷ 0 ∷ 8 ∷ 0 ∷ 0 ∷ 0 ∷ 3 ∷ 0 ∷ 0 ∷ 0 ∷ 0 ∷ 0 ∷ 0 ∷ 0 ∷ 0
     ∷ 0 ∷ 0 ∷ 0 ∷ 8 ∷ 0 ∷ 0 ∷ 0 ∷ 16 ∷ 255 ∷ 255 ∷ 255 ∷ 236 ∷ 0 ∷ 0 ∷ 0 ∷ 20 ∷ 0 ∷ 0 ∷ 0 ∷ 0 ∷ 0 ∷ 0 ∷ 0 ∷ 10 ∷ []
 unfolding isHex digitOf hexes hexAt digitByte hexDigits numberBE digitsBE bytesBE wordsOut ofBits floor scalable rounded accepted sound lineAt headOf total dueAt wordOf lineValue lineFault lineWord sheetNumber sheetWords sheetImage
@@ -50,7 +47,7 @@ pub record Sample : Type 0 where
   pub number : ℕ
   pub sheet : List ℕ
 
-abbrev sample : ℕ → List ℕ → Sample
+abbrev pub sample : ℕ → List ℕ → Sample
 sample n s = record { number = n; sheet = s }
 
 abbrev samples : List Sample
@@ -89,30 +86,3 @@ samples =
 numbers : map (λ (x : Sample). sheetNumber (x .sheet)) samples ≡ map (λ (x : Sample). x .number) samples
 unfolding isHex digitOf hexes hexAt digitByte hexDigits numberBE digitsBE bytesBE wordsOut ofBits floor scalable rounded accepted sound lineAt headOf total dueAt wordOf lineValue lineFault lineWord sheetNumber sheetWords sheetImage
 numbers = refl
-
--- ---- the number of the call, for a buffer of 56 bytes and of 55
-
--- both limits 0.03125: the low is 1 count, the high 0
-abbrev crossed : List ℕ
-crossed = text (set (set lines 3 0x0400003FA0000000000000) 4 0x0500003FA0000000000000)
-
--- state limits of 117 counts and of 118
-abbrev fitting : List ℕ
-fitting = changed 6 0x070000401D400000000000
-
-abbrev crowded : List ℕ
-crowded = changed 6 0x070000401D800000000000
-
-abbrev calls : List Sample
-calls = sample 0 (text lines) ∷ sample 7 crossed ∷ sample 4 (crossed ++ (10 ∷ [])) ∷ sample 0 fitting ∷ sample 12 crowded ∷ []
-
-abbrev shortCalls : List Sample
-shortCalls = sample 15 (text lines) ∷ sample 7 crossed ∷ sample 12 crowded ∷ []
-
-call-numbers : map (λ (x : Sample). intakeNumber (x .sheet) 56) calls ≡ map (λ (x : Sample). x .number) calls
-unfolding isHex digitOf hexes hexAt digitByte hexDigits numberBE digitsBE bytesBE wordsOut ofBits floor scalable rounded accepted sound lineAt headOf total dueAt wordOf lineValue lineFault lineWord sheetNumber sheetWords sheetImage intakeNumber natBE wordsAt sizesOf lowerAt upperAt momentumAt boundAt entryOf commandAt problemAt symmetryTest othersAt marginAt totalAt leastMargin largestTotal momentumRange momentumRatio pointTest rowTest tablesNumber F top ceil magnitude width rangeP rangeY rangeA rangeB
-call-numbers = refl
-
-short-numbers : map (λ (x : Sample). intakeNumber (x .sheet) 55) shortCalls ≡ map (λ (x : Sample). x .number) shortCalls
-unfolding isHex digitOf hexes hexAt digitByte hexDigits numberBE digitsBE bytesBE wordsOut ofBits floor scalable rounded accepted sound lineAt headOf total dueAt wordOf lineValue lineFault lineWord sheetNumber sheetWords sheetImage intakeNumber natBE wordsAt sizesOf lowerAt upperAt momentumAt boundAt entryOf commandAt problemAt symmetryTest othersAt marginAt totalAt leastMargin largestTotal momentumRange momentumRatio pointTest rowTest tablesNumber F top ceil magnitude width rangeP rangeY rangeA rangeB
-short-numbers = refl

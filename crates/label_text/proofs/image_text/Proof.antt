@@ -13,9 +13,10 @@ use Rattle.image.specs.Layout.{sizesOf}
 use Rattle.image.specs.declared.Sizes.{Sizes}
 use Rattle.image.specs.Calls.{coldAnswer, solveNumber, solveAnswer}
 use Rattle.image.proofs.Accept.{accepted}
-use Rattle.label_text.specs.Text.{isState, stateWords, lines, Holds}
+use Rattle.text.specs.Text.{Holds, isState, lines, stateWords}
+use Rattle.text.proofs.Written.{state-length}
 use Rattle.label_text.specs.Label.{imageText}
-use Rattle.label_text.proofs.Printed.{state-length, malformed, refused, answered}
+use Rattle.label_text.proofs.Printed.{answered, malformed, refused}
 use Rattle.label_text.proofs.image_text.Statement.{statement}
 use Rattle.label_text.proofs.image_text.Tie as tie
 

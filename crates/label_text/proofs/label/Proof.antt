@@ -6,11 +6,11 @@ use mathlib.Core.List.{List}
 use Prim.Native.Nat.{ℕ}
 use lib.ListN.{length}
 use lib.Seq.{length-take-le}
-use Rattle.sheet.specs.Sheet.{intakeImage}
-use Rattle.sheet.proofs.Image.{accepted-image}
-use Rattle.label_text.specs.Text.{Holds}
+use Rattle.intake.specs.Intake.{intakeImage}
+use Rattle.intake.proofs.Laws.{accepted-image}
+use Rattle.text.specs.Text.{Holds}
 use Rattle.label_text.specs.Label.{imageText}
-use Rattle.label_text.proofs.Printed.{sheet-refused, sheet-accepted}
+use Rattle.label_text.proofs.Printed.{sheet-accepted, sheet-refused}
 use Rattle.label_text.proofs.label.Statement.{statement}
 use Rattle.label_text.proofs.label.Tie as tie
 

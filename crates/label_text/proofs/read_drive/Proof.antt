@@ -6,8 +6,8 @@ use Prim.Native.Nat.{_*_}
 use lib.ListN.{length, take, drop, length-append, length-drop}
 use lib.Seq.{take-at, length-take-le}
 use borrow.Author.Tests.{eq-eqb}
-use Rattle.sheet.specs.Sheet.{intakeNumber}
-use Rattle.label_text.proofs.Intake.{own-length}
+use Rattle.intake.specs.Intake.{intakeNumber}
+use Rattle.intake.proofs.Laws.{own-length}
 use Rattle.label_text.proofs.read_drive.Statement.{statement}
 use Rattle.label_text.proofs.read_drive.Tie as tie
 

@@ -2,10 +2,10 @@
 use native.Mathlib.Omega.{arith}
 use mathlib.Core.Path.{_≡_, refl, sym, _∙_, subst}
 use Prim.Native.Nat.{ℕ, _≤_, _-_}
+use Rattle.frame.proofs.Laws.{total-high, total-is}
 use Rattle.sheet.specs.Reading.{ReadTo}
-use Rattle.sheet.proofs.Laws.{total-is, total-high}
-use Rattle.sheet.proofs.Whole.{read-start, taken-fault, taken-long, taken-all}
-use Rattle.sheet.specs.Sheet as spec
+use Rattle.sheet.proofs.Whole.{read-start, taken-all, taken-fault, taken-long}
+use Rattle.frame.specs.Frame as spec
 use Rattle.sheet.proofs.read_lines.Statement.{statement}
 use Rattle.sheet.proofs.read_lines.Tie as tie
 

@@ -2,9 +2,10 @@
 use native.Mathlib.Omega.{arith}
 use Rattle.line.specs.Line.{lineAt}
 use mathlib.Core.Path.{_≡_, sym, ap, _∙_}
-use Rattle.sheet.specs.Sheet.{headOf}
-use Rattle.sheet.proofs.Answer.{head-sound, answered-sized, answered-unsized}
 use borrow.Author.Needs.{needs}
+use Rattle.frame.specs.Frame.{headOf}
+use Rattle.frame.proofs.Sized.{head-sound}
+use Rattle.sheet.proofs.Answer.{answered-sized, answered-unsized}
 use Rattle.sheet.proofs.read_sheet.Statement.{statement}
 use Rattle.sheet.proofs.read_sheet.Tie as tie
 

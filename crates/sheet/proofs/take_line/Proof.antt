@@ -7,13 +7,14 @@ use lib.Ieee.{Float}
 use mir.Syntax.{w64}
 use mir.Val.{toZ, ofZ}
 use Rattle.double.specs.declared.Converted.the-variants.{Word, Refused}
-use Rattle.sheet.specs.declared.Due.{Due}
-use Rattle.sheet.specs.declared.Value.the-variants.{Double}
-use Rattle.sheet.specs.Sheet.{dueAt, lineValue, lineFault, lineWord, wordOf, valueDouble}
-use Rattle.sheet.specs.Reading.{lowBase}
-use Rattle.sheet.proofs.Laws.{total-high}
-use Rattle.sheet.proofs.Step.{low-due, high-due, low-of, high-of, fault-none, value-is, value-fault, fault-word, fault-refused, pair-words, pair-fault, step-word, step-low, step-pair}
 use borrow.Author.Needs.{needs}
+use Rattle.frame.specs.declared.Due.{Due}
+use Rattle.frame.specs.declared.Value.the-variants.{Double}
+use Rattle.frame.specs.Frame.{dueAt, lowBase, valueDouble, wordOf}
+use Rattle.frame.proofs.Laws.{total-high}
+use Rattle.frame.proofs.Limits.{high-due, high-of, low-due, low-of}
+use Rattle.sheet.specs.Sheet.{lineFault, lineValue, lineWord}
+use Rattle.sheet.proofs.Step.{fault-none, fault-refused, fault-word, pair-fault, pair-words, step-low, step-pair, step-word, value-fault, value-is}
 use Rattle.sheet.proofs.take_line.Statement.{statement}
 use Rattle.sheet.proofs.take_line.Tie as tie
 

@@ -1,0 +1,16 @@
+-- `frame::rounding` meets its contract. Assumes nothing.
+use borrow.Author.Tests.{le-leb, lt-leb, eq-eqb, ne-eqb}
+use Rattle.frame.proofs.rounding.Statement.{statement}
+use Rattle.frame.proofs.rounding.Tie as tie
+
+returns : tie.Need-returns
+returns c = rw (le-leb _ 3 (c .if1 .taken))
+
+returns-2 : tie.Need-returns-2
+returns-2 c = rw (lt-leb _ 3 (c .before .if1 .left), eq-eqb _ 5 (c .if2 .taken))
+
+returns-3 : tie.Need-returns-3
+returns-3 c = rw (lt-leb _ 3 (c .before .if1 .left), ne-eqb _ 5 (c .if2 .left))
+
+pub rounding-spec : {M : Type 1} → statement M
+rounding-spec = tie.close (tie.spec returns returns-2 returns-3)

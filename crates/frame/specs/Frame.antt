@@ -1,0 +1,142 @@
+-- Document 01, "The design sheet": what line 01 gives, the lines due after it, and the word of a line's double. Definitions only.
+use Prim.Native.Nat.{ℕ, _+_, _-_, _*_, _/_, _%_, _≤_, _<_}
+use mathlib.Core.Bool.{Bool, false, _&&_, cond}
+use mathlib.Core.List.{List, [], _∷_}
+use lib.Dec.{leb, ltb, eqb}
+use lib.IntN.{ℤ, pos, negsuc}
+use lib.Ieee.{Float, fin, binary64, ofBits}
+use Rattle.double.specs.Double.{convert, convertedNumber, ruleOf}
+use Rattle.double.specs.declared.Converted.{Converted}
+use Rattle.double.specs.declared.Converted.the-variants.{Word, Refused}
+use Rattle.double.specs.declared.Rounding.{Rounding}
+use Rattle.double.specs.declared.Rounding.the-variants.{Down, Up}
+use Rattle.image.specs.Sizes.{commandCount, sound}
+use Rattle.image.specs.declared.Sizes.{Sizes}
+use Rattle.line.specs.Line.{lineNumber}
+use Rattle.line.specs.declared.Line.{Line}
+use Rattle.line.specs.declared.Line.the-variants.{Frame, Malformed, End}
+use Rattle.frame.specs.declared.Due.{Due}
+use Rattle.frame.specs.declared.Head.{Head}
+use Rattle.frame.specs.declared.Head.the-variants.{Sized, Unsized}
+use Rattle.frame.specs.declared.Value.{Value}
+use Rattle.frame.specs.declared.Value.the-variants.{Double, Fault}
+
+-- ---- line 01
+
+-- "row is nu, column N; value bytes are nx, b, W, 0, sweeps in two bytes, 0, 0"
+abbrev pub frameSizes : ℕ → ℕ → ℕ → Sizes
+frameSizes row column bits = record {
+  nu = row;
+  steps = column;
+  nx = bits / 0x100_0000_0000_0000;
+  b = bits / 0x1_0000_0000_0000 % 256;
+  w = bits / 0x100_0000_0000 % 256;
+  sweeps = bits / 65536 % 65536;
+}
+
+-- "the three 0 bytes are 0"
+abbrev pub frameZeros : ℕ → Bool
+frameZeros bits = eqb (bits / 0x1_0000_0000 % 256) 0 && eqb (bits % 65536) 0
+
+-- what line 01 gives: its number is that of the line, or 2 ("for 01 only the kind, and that the three 0 bytes are 0"), or 3
+unfoldable pub headOf : Line → Head
+headOf End = Unsized (lineNumber End)
+headOf Malformed = Unsized (lineNumber Malformed)
+headOf (Frame kind row column bits) =
+    cond (eqb kind 1 && frameZeros bits) (cond (sound (frameSizes row column bits)) (Sized (frameSizes row column bits)) (Unsized 3)) (Unsized 2)
+
+-- ---- the lines due after it
+
+-- a "table": the kind of its lines, and how many rows and columns it has
+pub record Table : Type 0 where
+  pub kind : ℕ
+  pub rows : ℕ
+  pub columns : ℕ
+
+-- the table of a kind, r "by" c
+abbrev pub table : ℕ → ℕ → ℕ → Table
+table k r c = record { kind = k; rows = r; columns = c }
+
+-- "02: cost table H, n by n. 03: state table Φ, n by nx. 04 low limit and 05 high limit, row the motor, column 0; all 04 first. 06 step
+-- factor β, row and column 0. 07 state limit, row the state, column 0."
+abbrev pub tables : Sizes → List Table
+tables z =
+    table 2 (commandCount z) (commandCount z)
+    ∷ table 3 (commandCount z) (z .nx)
+    ∷ table 4 (z .nu) 1
+    ∷ table 5 (z .nu) 1
+    ∷ table 6 1 1
+    ∷ table 7 (z .nx) 1
+    ∷ []
+
+-- how many lines some tables have
+abbrev pub countIn : List Table → ℕ
+countIn [] = 0
+countIn (t ∷ ts) = t .rows * t .columns + countIn ts
+
+-- "a kind, a row and a column"
+abbrev pub due : ℕ → ℕ → ℕ → Due
+due k r c = record { kind = k; row = r; column = c }
+
+-- line i of some tables, "rows outermost, all counted from 0"
+abbrev pub dueIn : List Table → ℕ → Due
+dueIn [] i = due 0 0 0
+dueIn (t ∷ ts) i =
+    cond (ltb i (t .rows * t .columns)) (due (t .kind) (i / t .columns) (i % t .columns)) (dueIn ts (i - t .rows * t .columns))
+
+-- how many lines are due after line 01
+unfoldable pub total : Sizes → ℕ
+total z = countIn (tables z)
+
+-- the kind, row and column "due here", at line i after line 01
+unfoldable pub dueAt : Sizes → ℕ → Due
+dueAt z i = dueIn (tables z) i
+
+-- the first line of a low limit among those after line 01
+unfoldable pub lowBase : Sizes → ℕ
+lowBase z = commandCount z * commandCount z + commandCount z * z .nx
+
+abbrev pub isLow : Sizes → ℕ → Type 0
+isLow z k = (lowBase z ≤ k) × (k < lowBase z + z .nu)
+
+-- ---- one such line
+
+-- "02 and 03 down, 04 up, 05 down, 06 up, 07 up"
+abbrev pub roundingOf : ℕ → Rounding
+roundingOf kind = cond (leb kind 3) Down (cond (eqb kind 5) Down Up)
+
+-- not "a state limit below 0 once rounded"
+abbrev pub notBelowZero : Converted → Converted
+notBelowZero (Word (pos n)) = Word (pos n)
+notBelowZero (Word (negsuc n)) = Refused
+notBelowZero Refused = Refused
+
+-- the double of a line of some kind "scaled by 2^b .. and then rounded"
+unfoldable pub wordOf : Sizes → ℕ → Float → Converted
+wordOf z kind x =
+    cond (eqb kind 7) (notBelowZero (convert (ruleOf (roundingOf kind)) (z .b) (z .w) x)) (convert (ruleOf (roundingOf kind)) (z .b) (z .w) x)
+
+-- the word of a conversion; 0 where there is none
+abbrev pub convertedWord : Converted → ℤ
+convertedWord (Word v) = v
+convertedWord Refused = pos 0
+
+-- "the kind, row and column due here"
+abbrev pub isDue : Due → ℕ → ℕ → ℕ → Bool
+isDue d kind row column = eqb kind (d .kind) && eqb row (d .row) && eqb column (d .column)
+
+-- what a line gives where d is due: its number is that of the line, or 2; "from 02 on the value is an IEEE 754 double"
+abbrev pub valueOf : Due → Line → Value
+valueOf d End = Fault (lineNumber End)
+valueOf d Malformed = Fault (lineNumber Malformed)
+valueOf d (Frame kind row column bits) = cond (isDue d kind row column) (Double (ofBits binary64 bits)) (Fault 2)
+
+-- document 01's number for each case of `Value`: a double goes with that of its conversion, 0 or 5, a fault with its own
+abbrev pub valueNumber : Sizes → ℕ → Value → ℕ
+valueNumber z kind (Double x) = convertedNumber (wordOf z kind x)
+valueNumber z kind (Fault n) = n
+
+-- the double of each case; plus zero where there is none
+abbrev pub valueDouble : Value → Float
+valueDouble (Double x) = x
+valueDouble (Fault n) = fin false 0 (pos 0)

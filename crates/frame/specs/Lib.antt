@@ -1,0 +1,3 @@
+-- What the contracts and the laws of frame cite.
+pub mod Frame
+pub mod Laws

@@ -1,0 +1,3 @@
+-- The laws that other crates cite.
+pub mod Call
+pub mod Laws

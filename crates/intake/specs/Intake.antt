@@ -1,0 +1,30 @@
+-- Document 01, "Place of each check": checks 7 to 12 of a sheet, then the buffer's length. Definitions only.
+use Prim.Native.Nat.{ℕ}
+use mathlib.Core.List.{List, [], _∷_}
+use lib.ListN.{length}
+use lib.Dec.{eqb}
+use lib.IntN.{ℤ}
+use Rattle.word.specs.Word.{wordsOut, Words}
+use Rattle.image.specs.Order.{check, firstFault, orElse}
+use Rattle.image.specs.Sizes.{Whole}
+use Rattle.image.specs.Layout.{sizesOf}
+use Rattle.image.specs.Tables.{tablesNumber}
+use Rattle.sheet.specs.Sheet.{sheetNumber, sheetImage}
+
+-- 7 to 12, of an image with the sizes that it has
+abbrev pub ownTables : List ℕ → ℕ
+ownTables image = tablesNumber (sizesOf image) image
+
+-- "tested through its lines and end, then 7 to 12, then 15", for a buffer of `room` bytes
+unfoldable pub intakeNumber : List ℕ → ℕ → ℕ
+intakeNumber sheet room =
+    orElse (sheetNumber sheet) (orElse (ownTables (sheetImage sheet)) (firstFault (check 15 (eqb room (length (sheetImage sheet))) ∷ [])))
+
+-- the bytes "written to the caller's buffer" with number 0
+abbrev pub intakeImage : List ℕ → List ℕ
+intakeImage sheet = sheetImage sheet
+
+-- words that make an image
+pub record ImageWords (words : List ℤ) : Type 0 where
+  pub fit : Words words
+  pub whole : Whole (sizesOf (wordsOut words)) (wordsOut words)

@@ -1,0 +1,3 @@
+-- What the contracts and the laws of intake cite.
+pub mod Intake
+pub mod Sample

@@ -1,0 +1,102 @@
+// What a state file says, and the lines that the label program prints.
+ghost use mathlib.Core.Path.{_≡_};
+ghost use Prim.Native.Nat.{_+_, _*_, _≤_};
+ghost use lib.ListN.{length, take};
+ghost use Rattle.word.specs.Buffer.{putAt};
+ghost use Rattle.text.specs.Text.{isState, stateWords, line, lines, refusal, Holds};
+
+// A text of at most 16 lines of 18 bytes, in front of the array.
+pub struct Text {
+    pub bytes: [u8; 288],
+    pub length: usize,
+}
+
+// Whether a state file holds nx words.
+pub fn is_state(file: &[u8], nx: usize) -> bool
+    requires { ⌜ nx ≤ 12 ⌝ }
+    ensures { λ r. ⌜ r ≡ isState nx (now (file .entry)) ⌝ }
+{
+    let digits = 8 * nx;
+    if file.len() != digits + 1 {
+        return false;
+    }
+    if file[digits] != 10 {
+        return false;
+    }
+    word::are_hex(file, 0, digits)
+}
+
+// Zeros. As calls, they keep their literals out of the goals.
+pub fn blank_words() -> [u8; 64]
+    ensures { λ r. ⌜ length r ≡ 64 ⌝ }
+{
+    [0; 64]
+}
+
+pub fn blank_text() -> [u8; 288]
+    ensures { λ r. ⌜ length r ≡ 288 ⌝ }
+{
+    [0; 288]
+}
+
+// The words of a state file, in front of the array.
+pub fn state_words(file: &[u8], nx: usize) -> [u8; 64]
+    requires { ⌜ (nx ≤ 12) × (8 * nx ≤ length (now file)) ⌝ }
+    ensures { λ r. ⌜ (length r ≡ 64) × (take (4 * nx) r ≡ stateWords nx (now (file .entry))) ⌝ }
+{
+    let mut r = blank_words();
+    let mut i = 0;
+    while i < nx {
+        word::put_nat(&mut r, 4 * i, word::hex_at(file, 8 * i, 8));
+        i += 1;
+    }
+    r
+}
+
+fn put_line(out: &mut [u8], at: usize, command: u64, bound: u64)
+    requires { ⌜ at + 18 ≤ length (now out) ⌝ }
+    ensures { λ _. ⌜ now (out .exit) ≡ putAt (now (out .entry)) at (line command bound) ⌝ }
+{
+    word::put_hex(out, at, 8, command);
+    out[at + 8] = b' ';
+    word::put_hex(out, at + 9, 8, bound);
+    out[at + 17] = b'\n';
+}
+
+// The lines of an answer: n commands, then their bounds.
+pub fn lines_of(answer: &[u8], n: usize) -> Text
+    requires { ⌜ (n ≤ 16) × (length (now answer) ≡ 8 * n) ⌝ }
+    ensures { λ r. ⌜ Holds (lines n (now (answer .entry)) n) r ⌝ }
+{
+    let mut bytes = blank_text();
+    let mut k = 0;
+    while k < n {
+        let command = word::nat_at(answer, 4 * k);
+        let bound = word::nat_at(answer, 4 * (n + k));
+        put_line(&mut bytes, 18 * k, command, bound);
+        k += 1;
+    }
+    Text {
+        bytes,
+        length: 18 * n,
+    }
+}
+
+// The line of a refusal.
+pub fn refusal_of(number: u32) -> Text
+    ensures { λ r. ⌜ Holds (refusal number) r ⌝ }
+{
+    let mut bytes = blank_text();
+    bytes[0] = b'r';
+    bytes[1] = b'e';
+    bytes[2] = b'f';
+    bytes[3] = b'u';
+    bytes[4] = b's';
+    bytes[5] = b'e';
+    bytes[6] = b'd';
+    bytes[7] = b' ';
+    bytes[8] = (48 + number / 10 % 10) as u8;
+    bytes[9] = (48 + number % 10) as u8;
+    bytes[10] = b'\n';
+    Text { bytes, length: 11 }
+}
