@@ -7,7 +7,7 @@ ghost use lib.Signed.{leZ};
 ghost use Rattle.gradient.specs.Demand.{inputsWithin, startWithin};
 ghost use Rattle.image.specs.Sizes.{Whole, commandCount};
 ghost use Rattle.image.specs.Layout.{sizesOf, problemAt, lowerAt, upperAt};
-ghost use Rattle.image.specs.Calls.{inputsOf, startOf, callNumber, solveNumber, coldNumber};
+ghost use Rattle.interface.specs.Calls.{inputsOf, startOf, callNumber, solveNumber, coldNumber};
 use image::Sizes;
 use magnitudes::size;
 

@@ -1,17 +1,16 @@
 -- Document 01, "Cases at the edges": "the starred cases together form one table". Each line is one case; `holds` says what is computed
 -- of it, over the definitions that the calls' promises cite. Assumes nothing.
-use mathlib.Core.Bool.{Bool, true, false, not, _&&_}
+use mathlib.Core.Bool.{Bool, not, _&&_}
 use mathlib.Core.List.{List, [], _∷_, _++_, map}
 use Prim.Native.Nat.{ℕ}
-use lib.Dec.{eqb, leb}
+use lib.Dec.{eqb}
 use lib.IntN.{ℤ, pos, negsuc}
-use lib.Ieee.{Float, binary64, ofBits}
-use lib.Signed.{leZ}
+use lib.Ieee.{binary64, ofBits}
 use Rattle.word.specs.Word.{wordsOut}
 use Rattle.double.specs.Double.{conversionNumber, rounded, roundUp, roundDown}
 use Rattle.gradient.specs.Demand.{every2}
-use Rattle.image.specs.Tables.{eqZ, imageNumber}
-use Rattle.image.specs.Calls.{coldAnswer, solveNumber, commandsAfter, boundsAfter}
+use Rattle.interface.specs.Tables.{eqZ, imageNumber}
+use Rattle.interface.specs.Calls.{coldAnswer, solveNumber, commandsAfter, boundsAfter}
 
 -- a case, and what the document says of it
 pub data Case : Type 0 where

@@ -4,7 +4,7 @@ ghost use Prim.Native.Nat.{_^_, _≤_, _<_};
 ghost use lib.IntN.{pos, natAbs};
 ghost use Rattle.image.specs.Sizes.{Whole, commandCount};
 ghost use Rattle.image.specs.Layout.{costAt};
-ghost use Rattle.image.specs.Tables.{eqZ, othersAt, marginAt, totalAt, symmetryTest};
+ghost use Rattle.interface.specs.Tables.{eqZ, othersAt, marginAt, totalAt, symmetryTest};
 use image::Sizes;
 use row_sums::Term;
 

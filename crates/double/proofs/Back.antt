@@ -1,14 +1,12 @@
 -- The way back: a word divided by 2^b is exactly that quotient, and converts to the word again under every rule. Assumes nothing.
 use mathlib.Core.Path.{_≡_, refl, sym, ap, _∙_, subst}
-use Prim.Native.Nat.{ℕ, zero, suc, zero-le, _-_, _*_, _^_, _≤_, _<_}
+use Prim.Native.Nat.{ℕ, zero-le, _-_, _*_, _^_, _≤_, _<_}
 use native.Mathlib.Nat.{eq-of-mul-eq-mul-right, zero-mul, one-mul, mul-one, mul-comm, mul-assoc, mul-pos, le-trans, lt-of-lt-of-le, mul-lt-mul-of-pos-right}
-use native.Mathlib.Omega.{arith}
-use mathlib.Core.Bool.{Bool, true, false, true≢false, false≢true}
-use lib.IntN.{ℤ, pos, negsuc, negℤ, natAbs}
-use lib.Signed.{ltZ, leZ}
-use lib.Dec.{T, leb, le→leb, lt→ltb, lit<, lit≤}
-use lib.Pow.{pow-pos, pow-mono}
-use borrow.Author.Tests.{ltb-true, ltb-false, leb-true, le-leb, lt-leb, lt-ltb}
+use mathlib.Core.Bool.{Bool, true, false}
+use lib.IntN.{ℤ, pos, negsuc, natAbs}
+use lib.Dec.{T, le→leb, lt→ltb, lit<, lit≤}
+use lib.Pow.{pow-pos}
+use borrow.Author.Tests.{le-leb, lt-ltb}
 use lib.Ieee.{Float, nan, inf, fin, binary64, up, down, round, div, ofInt, inFloat, fits}
 use lib.Ieee.Fits.{down-pos, round-fits}
 use lib.Ieee.Back.{whole-unique}

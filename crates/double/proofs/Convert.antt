@@ -1,13 +1,12 @@
 -- A conversion: the machine's product rounds to what the exact product rounds to, and no value beyond ±2^32 rounds to a word. Assumes nothing.
-use mathlib.Core.Path.{_≡_, refl, sym, ap, _∙_, subst}
-use Prim.Native.Nat.{ℕ, _+_, _-_, _*_, _^_, _≤_, _<_}
+use mathlib.Core.Path.{_≡_, refl, sym, ap, _∙_}
+use Prim.Native.Nat.{ℕ, _-_, _*_, _^_, _≤_, _<_}
 use native.Mathlib.Nat.{le-trans, mul-one, mul-le-mul-right}
 use native.Mathlib.Omega.{arith}
 use mathlib.Core.Bool.{Bool, true, false, cond, _&&_, false≢true}
-use lib.Dec.{T, ltb, leb, leb→le, lit≤}
+use lib.Dec.{T, ltb, lit≤}
 use lib.Pow.{pow-mono}
 use lib.IntN.{ℤ, natAbs}
-use mir.Facts.{and-yes}
 use borrow.Author.Tests.{ltb-true, ltb-false, lt-leb}
 use lib.Ieee.{Float, nan, inf, fin, binary64, up, down, lt, mul, fits}
 use lib.Ieee.Fits.{down-pos}

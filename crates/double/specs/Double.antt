@@ -1,9 +1,9 @@
 -- Design doubles and words, as "Words and sizes" and "The design sheet" of document 01 relate them. They compute. Assumes nothing.
 -- A finite double `fin s m e` of lib.Ieee is ±m × 2^e, and 2^e is the fraction up e / down e: so it is exactly ±(m × up e) / down e.
-use Prim.Native.Nat.{ℕ, _+_, _-_, _*_, _^_}
+use Prim.Native.Nat.{ℕ, _*_, _^_}
 use mathlib.Core.Path.{_≡_}
 use mathlib.Core.Bool.{Bool, true, false, _&&_, cond}
-use lib.Dec.{leb, ltb, eqb}
+use lib.Dec.{ltb, eqb}
 use lib.IntN.{ℤ, pos, negsuc, negℤ, natAbs, _*ℤ_}
 use lib.Ieee.{Float, nan, inf, fin, binary64, up, down, round}
 use lib.Ieee.Scale.{finite}

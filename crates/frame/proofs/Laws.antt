@@ -11,9 +11,9 @@ use borrow.Author.Tests.{ltb-true, eq-eqb, ne-eqb, lt-ltb, le-ltb}
 use Rattle.double.specs.declared.Converted.{Converted}
 use Rattle.double.specs.declared.Converted.the-variants.{Word, Refused}
 use Rattle.image.specs.declared.Sizes.{Sizes}
+use Rattle.image.specs.Sizes.{commandCount, bodyCount, sound, Sound}
 use Rattle.line.specs.declared.Line.{Line}
 use Rattle.line.specs.declared.Line.the-variants.{Frame}
-use Rattle.image.specs.Sizes.{commandCount, bodyCount, sound, Sound}
 use Rattle.frame.specs.declared.Head.the-variants.{Sized, Unsized}
 use Rattle.frame.specs.Frame.{due, dueAt, frameSizes, headOf, notBelowZero, total}
 

@@ -5,14 +5,14 @@ use mathlib.Core.List.{List}
 use Prim.Native.Nat.{ℕ, _+_}
 use native.Mathlib.Omega.{arith}
 use lib.Dec.{eqb}
-use Rattle.word.specs.Hex.{hexAt}
-use Rattle.line.specs.Line.{lineAt, isFrame}
-use Rattle.line.proofs.Laws.{framed}
-use Rattle.line.specs.declared.Line.{Line}
-use Rattle.line.specs.declared.Line.the-variants.{Frame, Malformed, End}
+use Rattle.hex.specs.Hex.{hexAt}
 use Rattle.image.specs.declared.Sizes.{Sizes}
 use Rattle.image.specs.Sizes.{sound, Sound}
 use Rattle.image.proofs.Sized.{sound-facts}
+use Rattle.line.specs.Line.{lineAt, isFrame}
+use Rattle.line.specs.declared.Line.{Line}
+use Rattle.line.specs.declared.Line.the-variants.{Frame, Malformed, End}
+use Rattle.line.proofs.Laws.{framed}
 use Rattle.frame.specs.declared.Head.the-variants.{Sized, Unsized}
 use Rattle.frame.specs.Frame.{frameSizes, frameZeros, headOf}
 

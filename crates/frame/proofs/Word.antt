@@ -12,8 +12,8 @@ use Rattle.word.specs.Format.{isFormat, top, inWord}
 use Rattle.double.specs.Double.{convert, accepted, scalable, rounded, roundUp, ruleOf, convertedNumber, roundDown}
 use Rattle.double.specs.declared.Converted.{Converted}
 use Rattle.double.specs.declared.Converted.the-variants.{Word, Refused}
-use Rattle.image.specs.declared.Sizes.{Sizes}
 use Rattle.double.proofs.Convert.{convert-word}
+use Rattle.image.specs.declared.Sizes.{Sizes}
 use Rattle.line.specs.declared.Line.{Line}
 use Rattle.line.specs.declared.Line.the-variants.{Frame, Malformed, End}
 use Rattle.frame.specs.declared.Due.{Due}

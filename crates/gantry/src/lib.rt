@@ -3,8 +3,8 @@ ghost use mathlib.Core.Path.{_≡_};
 ghost use mathlib.Core.Bool.{cond};
 ghost use lib.Dec.{eqb};
 ghost use lib.ListN.{length};
-ghost use Rattle.image.specs.Calls.{coldNumber, coldAnswer, solveNumber, solveAnswer};
-ghost use Rattle.image.specs.Demand.{Guarantee};
+ghost use Rattle.interface.specs.Calls.{coldNumber, coldAnswer, solveNumber, solveAnswer};
+ghost use Rattle.interface.specs.Demand.{Guarantee};
 ghost use Rattle.intake.specs.Intake.{intakeNumber, intakeImage};
 
 // Reads a design sheet and writes its image.

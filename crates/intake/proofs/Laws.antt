@@ -6,9 +6,9 @@ use Prim.Native.Nat.{ℕ, _*_, _≤_}
 use lib.IntN.{ℤ}
 use lib.ListN.{length, take}
 use borrow.Author.Tests.{eqb-true, eqb-false}
-use Rattle.image.specs.Tables.{imageNumber}
-use Rattle.image.proofs.Ordering.{none}
 use lib.Dec.{eqb}
+use Rattle.interface.specs.Tables.{imageNumber}
+use Rattle.image.proofs.Ordering.{none}
 use Rattle.sheet.specs.Laws.{reach}
 use Rattle.sheet.specs.Reading.{Answered}
 use Rattle.sheet.specs.Sheet.{sheetImage, sheetNumber, sheetWords}

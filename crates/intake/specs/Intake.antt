@@ -8,7 +8,7 @@ use Rattle.word.specs.Word.{wordsOut, Words}
 use Rattle.image.specs.Order.{check, firstFault, orElse}
 use Rattle.image.specs.Sizes.{Whole}
 use Rattle.image.specs.Layout.{sizesOf}
-use Rattle.image.specs.Tables.{tablesNumber}
+use Rattle.interface.specs.Tables.{tablesNumber}
 use Rattle.sheet.specs.Sheet.{sheetNumber, sheetImage}
 
 -- 7 to 12, of an image with the sizes that it has

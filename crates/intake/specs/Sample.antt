@@ -6,14 +6,14 @@ use lib.ListN.{set}
 use lib.Ieee.{ofBits}
 use Rattle.integer.specs.Round.{floor, ceil}
 use Rattle.word.specs.Digits.{numberBE, digitsBE}
-use Rattle.word.specs.Hex.{isHex, digitOf, hexes, hexAt, digitByte, hexDigits}
+use Rattle.hex.specs.Hex.{isHex, digitOf, hexes, hexAt, digitByte, hexDigits}
 use Rattle.word.specs.Word.{natBE, bytesBE, wordsAt, wordsOut}
 use Rattle.double.specs.Double.{scalable, rounded, accepted}
-use Rattle.gradient.specs.Problem.{F, top}
+use Rattle.gradient.specs.Problem.{F}
 use Rattle.gradient.specs.Bounds.{magnitude, width, rangeP, rangeY, rangeA, rangeB}
 use Rattle.image.specs.Sizes.{sound}
 use Rattle.image.specs.Layout.{sizesOf, lowerAt, upperAt, momentumAt, boundAt, entryOf, commandAt, problemAt}
-use Rattle.image.specs.Tables.{symmetryTest, othersAt, marginAt, totalAt, leastMargin, largestTotal, momentumRange, momentumRatio, pointTest, rowTest, tablesNumber}
+use Rattle.interface.specs.Tables.{symmetryTest, othersAt, marginAt, totalAt, leastMargin, largestTotal, momentumRange, momentumRatio, pointTest, rowTest, tablesNumber}
 use Rattle.line.specs.Line.{lineAt}
 use Rattle.frame.specs.Frame.{dueAt, headOf, total, wordOf}
 use Rattle.sheet.specs.Sample.{Sample, changed, lines, sample, text}
@@ -40,9 +40,9 @@ abbrev shortCalls : List Sample
 shortCalls = sample 15 (text lines) ∷ sample 7 crossed ∷ sample 12 crowded ∷ []
 
 call-numbers : map (λ (x : Sample). intakeNumber (x .sheet) 56) calls ≡ map (λ (x : Sample). x .number) calls
-unfolding isHex digitOf hexes hexAt digitByte hexDigits numberBE digitsBE bytesBE wordsOut ofBits floor scalable rounded accepted sound lineAt headOf total dueAt wordOf lineValue lineFault lineWord sheetNumber sheetWords sheetImage intakeNumber natBE wordsAt sizesOf lowerAt upperAt momentumAt boundAt entryOf commandAt problemAt symmetryTest othersAt marginAt totalAt leastMargin largestTotal momentumRange momentumRatio pointTest rowTest tablesNumber F top ceil magnitude width rangeP rangeY rangeA rangeB
+unfolding isHex digitOf hexes hexAt digitByte hexDigits numberBE digitsBE bytesBE wordsOut ofBits floor scalable rounded accepted sound lineAt headOf total dueAt wordOf lineValue lineFault lineWord sheetNumber sheetWords sheetImage intakeNumber natBE wordsAt sizesOf lowerAt upperAt momentumAt boundAt entryOf commandAt problemAt symmetryTest othersAt marginAt totalAt leastMargin largestTotal momentumRange momentumRatio pointTest rowTest tablesNumber F ceil magnitude width rangeP rangeY rangeA rangeB
 call-numbers = refl
 
 short-numbers : map (λ (x : Sample). intakeNumber (x .sheet) 55) shortCalls ≡ map (λ (x : Sample). x .number) shortCalls
-unfolding isHex digitOf hexes hexAt digitByte hexDigits numberBE digitsBE bytesBE wordsOut ofBits floor scalable rounded accepted sound lineAt headOf total dueAt wordOf lineValue lineFault lineWord sheetNumber sheetWords sheetImage intakeNumber natBE wordsAt sizesOf lowerAt upperAt momentumAt boundAt entryOf commandAt problemAt symmetryTest othersAt marginAt totalAt leastMargin largestTotal momentumRange momentumRatio pointTest rowTest tablesNumber F top ceil magnitude width rangeP rangeY rangeA rangeB
+unfolding isHex digitOf hexes hexAt digitByte hexDigits numberBE digitsBE bytesBE wordsOut ofBits floor scalable rounded accepted sound lineAt headOf total dueAt wordOf lineValue lineFault lineWord sheetNumber sheetWords sheetImage intakeNumber natBE wordsAt sizesOf lowerAt upperAt momentumAt boundAt entryOf commandAt problemAt symmetryTest othersAt marginAt totalAt leastMargin largestTotal momentumRange momentumRatio pointTest rowTest tablesNumber F ceil magnitude width rangeP rangeY rangeA rangeB
 short-numbers = refl

@@ -20,10 +20,10 @@ use Rattle.gradient.proofs.Lengths.{coldStart-length}
 use Rattle.image.specs.Order.{orElse}
 use Rattle.image.specs.Sizes.{commandCount}
 use Rattle.image.specs.Layout.{sizesOf, problemOf}
-use Rattle.image.specs.Tables.{imageNumber}
-use Rattle.image.specs.Accepted.{Accepted}
-use Rattle.image.specs.Calls.{inputsOf, startOf, coldAnswer, callNumber, solveNumber}
-use Rattle.image.proofs.Accept.{accepted, commands-length}
+use Rattle.interface.specs.Tables.{imageNumber}
+use Rattle.interface.specs.Accepted.{Accepted}
+use Rattle.interface.specs.Calls.{inputsOf, startOf, coldAnswer, callNumber, solveNumber}
+use Rattle.interface.proofs.Accept.{accepted, commands-length}
 use Rattle.solve.proofs.Answers.{cold-fit}
 use Rattle.text.specs.Text.{isState, stateWords}
 use Rattle.label_text.specs.Label.{stateNumber}

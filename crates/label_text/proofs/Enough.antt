@@ -10,7 +10,7 @@ use lib.ListN.{length, take}
 use lib.Seq.{take-all, length-take-le}
 use borrow.Author.Tests.{eqb-true, leb-true, leb-false}
 use Rattle.image.specs.Layout.{sizesOf}
-use Rattle.image.proofs.Accept.{accepted}
+use Rattle.interface.proofs.Accept.{accepted}
 use Rattle.sheet.proofs.Reach.{enough-image}
 use Rattle.intake.specs.Intake.{intakeImage, intakeNumber}
 use Rattle.intake.proofs.Laws.{accepted-image, enough-number}

@@ -7,8 +7,8 @@ use lib.ListN.{length}
 use borrow.Author.Tests.{eq-eqb, ne-eqb}
 use Rattle.image.specs.Sizes.{commandCount}
 use Rattle.image.specs.Layout.{sizesOf}
-use Rattle.image.specs.Tables.{imageNumber}
-use Rattle.image.specs.Calls.{coldNumber, coldAnswer, solveNumber, solveAnswer}
+use Rattle.interface.specs.Tables.{imageNumber}
+use Rattle.interface.specs.Calls.{coldNumber, coldAnswer, solveNumber, solveAnswer}
 use Rattle.intake.specs.Intake.{intakeImage, intakeNumber}
 use Rattle.text.specs.Text.{isState, lines, refusal, stateWords}
 use Rattle.label_text.specs.Label.{imageText, labelText, stateNumber}

@@ -6,7 +6,7 @@ use lib.ListN.{length, take}
 use Rattle.image.specs.Order.{check, firstFault, orElse}
 use Rattle.image.specs.Sizes.{commandCount}
 use Rattle.image.specs.Layout.{sizesOf}
-use Rattle.image.specs.Calls.{coldAnswer, solveNumber, solveAnswer}
+use Rattle.interface.specs.Calls.{coldAnswer, solveNumber, solveAnswer}
 use Rattle.intake.specs.Intake.{intakeImage, intakeNumber}
 use Rattle.text.specs.Text.{isState, lines, printed, stateWords}
 use Rattle.label_text.specs.declared.Drive.{Drive}

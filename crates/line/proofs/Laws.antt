@@ -12,7 +12,7 @@ use lib.ListN.{length, take, length-take, List·getD-eq-default}
 use Rattle.line.specs.declared.Line.{Line}
 use Rattle.line.specs.declared.Line.the-variants.{Frame, Malformed, End}
 use Rattle.line.specs.Line.{isFrame, frameAt, lineAt, lineNumber, numberAt}
-use Rattle.word.specs.Hex.{digitOf, hexes, hexAt}
+use Rattle.hex.specs.Hex.{digitOf, hexes, hexAt}
 use Rattle.word.proofs.Digits.{number-cong}
 
 -- the line has the number that its tests give

@@ -26,17 +26,17 @@ pub fn line_at(s: &[u8], at: usize) -> Line
     if s.len() - at < 23 {
         return Line::Malformed; // a cut line
     }
-    if !word::are_hex(s, at, 22) {
+    if !hex::are_hex(s, at, 22) {
         return Line::Malformed;
     }
     if s[at + 22] != 10 {
         return Line::Malformed;
     }
     Line::Frame {
-        kind: word::hex_at(s, at, 2) as usize,
-        row: word::hex_at(s, at + 2, 2) as usize,
-        column: word::hex_at(s, at + 4, 2) as usize,
-        bits: word::hex_at(s, at + 6, 16),
+        kind: hex::hex_at(s, at, 2) as usize,
+        row: hex::hex_at(s, at + 2, 2) as usize,
+        column: hex::hex_at(s, at + 4, 2) as usize,
+        bits: hex::hex_at(s, at + 6, 16),
     }
 }
 

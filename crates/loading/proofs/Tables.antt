@@ -4,8 +4,7 @@ use mathlib.Core.List.{List, []}
 use Prim.Native.Nat.{ℕ, _*_, _-_, _^_, _≤_, _<_}
 use native.Mathlib.Nat.{zero-add}
 use native.Mathlib.Omega.{arith}
-use lib.ListN.{length, getD, take, drop, length-drop, length-map}
-use lib.Seq.{take-all}
+use lib.ListN.{length, getD, length-map}
 use lib.IntN.{ℤ, pos, natAbs}
 use Rattle.word.specs.Word.{wordAt, wordsAt}
 use Rattle.word.proofs.Words.{length-words-at, getD-words-at}
@@ -17,15 +16,11 @@ use Rattle.gradient.proofs.Index.{sumZ-cong, linear-sum, tab-length, tab-at}
 use Rattle.image.specs.declared.Sizes.{Sizes}
 use Rattle.image.specs.Sizes.{commandCount}
 use Rattle.image.specs.Layout.{sizesOf, boundPlace, gainRow, entryAt, commandAt, problemAt, problemOf}
-use Rattle.image.specs.Calls.{inputsOf}
+use Rattle.interface.specs.Calls.{inputsOf}
 use Rattle.array.specs.Arrays.{Filled, Tabled}
 use Rattle.dot.specs.Sums.{inputTerm}
 use Rattle.rows.specs.declared.Terms.{Terms}
 use Rattle.loading.specs.Tables.{linearAt, TermsOf}
-
--- a part that goes on to the end
-pub rest : (s : List ℕ) (at : ℕ) → take (length s - at) (drop at s) ≡ drop at s
-rest s at = take-all (length s - at) (drop at s) (omega (arith, length-drop at s))
 
 -- the row sum of a row of gains
 pub linear-is : (z : Sizes) (image state : List ℕ) (x : List ℤ) (i : ℕ) → Filled (pos 0) (z .nx) (λ (j : ℕ). wordAt state (4 * j)) x

@@ -9,7 +9,7 @@ use Rattle.gradient.specs.Bounds.{width}
 use Rattle.image.specs.declared.Sizes.{Sizes}
 use Rattle.image.specs.Sizes.{commandCount}
 use Rattle.image.specs.Layout.{lowerAt, upperAt, momentumAt, commandAt, problemAt}
-use Rattle.image.specs.Calls.{inputsOf}
+use Rattle.interface.specs.Calls.{inputsOf}
 use Rattle.array.specs.Arrays.{Filled}
 use Rattle.rows.specs.declared.Terms.{Terms}
 use Rattle.loading.specs.declared.Limits.{Limits}

@@ -5,7 +5,7 @@ use Prim.Native.Nat.{ℕ, zero, suc, _+_, _-_, _≤_}
 use native.Mathlib.Omega.{arith}
 use lib.IntN.{ℤ}
 use lib.Signed.{leZ}
-use Rattle.image.specs.Tables.{minZ, maxZ, leastTo, largestTo}
+use Rattle.interface.specs.Tables.{minZ, maxZ, leastTo, largestTo}
 
 -- each is one of them
 either : (P : ℤ → Type 0) (t : Bool) (a c : ℤ) → P a → P c → P (cond t a c)

@@ -15,8 +15,8 @@ use Rattle.integer.proofs.Tests.{of-true, both}
 use Rattle.image.specs.declared.Sizes.{Sizes}
 use Rattle.image.specs.Sizes.{commandCount}
 use Rattle.image.specs.Layout.{costAt, momentumAt}
-use Rattle.image.specs.Tables.{marginTest, totalTest, othersAt, marginAt, totalAt, leastMargin, largestTotal, momentumRange}
-use Rattle.image.proofs.Ordering.{all-at}
+use Rattle.interface.specs.Tables.{marginTest, totalTest, othersAt, marginAt, totalAt, leastMargin, largestTotal, momentumRange}
+use Rattle.gradient.proofs.Tests.{all-at}
 use Rattle.momentum.specs.Ready.{MomentumReady}
 use Rattle.momentum.proofs.Least.{least-one, largest-one}
 

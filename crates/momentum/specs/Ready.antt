@@ -4,9 +4,9 @@ use mathlib.Core.Path.{_≡_}
 use mathlib.Core.Bool.{true}
 use mathlib.Core.List.{List}
 use Rattle.image.specs.declared.Sizes.{Sizes}
-use Rattle.image.specs.Order.{allTo}
+use Rattle.gradient.specs.Index.{allTo}
 use Rattle.image.specs.Sizes.{Whole, commandCount}
-use Rattle.image.specs.Tables.{marginTest, totalTest, momentumRange}
+use Rattle.interface.specs.Tables.{marginTest, totalTest, momentumRange}
 
 -- the products of check 11 fit once the range of β is tested and 9 and 10 have passed
 pub record MomentumReady (z : Sizes) (s : List ℕ) : Type 0 where

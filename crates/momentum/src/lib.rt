@@ -3,7 +3,7 @@ ghost use mathlib.Core.Path.{_≡_};
 ghost use Prim.Native.Nat.{_^_, _≤_};
 ghost use lib.IntN.{natAbs, _*ℤ_};
 ghost use Rattle.image.specs.Sizes.{Whole};
-ghost use Rattle.image.specs.Tables.{minZ, maxZ, leastMargin, largestTotal, momentumRange, momentumRatio};
+ghost use Rattle.interface.specs.Tables.{minZ, maxZ, leastMargin, largestTotal, momentumRange, momentumRatio};
 ghost use Rattle.momentum.specs.Ready.{MomentumReady};
 use image::Sizes;
 

@@ -5,8 +5,7 @@ use Prim.Native.Nat.{ℕ, _+_, _*_, _-_, _^_, _≤_, _<_}
 use native.Mathlib.Omega.{arith}
 use lib.Dec.{leb}
 use lib.IntN.{pos}
-use lib.ListN.{length, getD, take, drop, length-drop}
-use lib.Seq.{take-all}
+use lib.ListN.{length, getD, length-drop}
 use borrow.Author.Tests.{leb-true}
 use Rattle.integer.proofs.Tests.{both}
 use Rattle.word.specs.Format.{top}
@@ -18,22 +17,15 @@ use Rattle.gradient.proofs.Index.{sumN-cong, rangeA-sum, rangeB-sum, tab-at}
 use Rattle.image.specs.declared.Sizes.{Sizes}
 use Rattle.image.specs.Sizes.{commandCount, Sound}
 use Rattle.image.specs.Layout.{costOffset, gainOffset, entryAt, commandAt, problemAt}
-use Rattle.image.specs.Tables.{pointTest, othersAt}
-use Rattle.image.proofs.Ordering.{all-at}
+use Rattle.interface.specs.Tables.{pointTest, othersAt}
+use Rattle.gradient.proofs.Tests.{all-at}
 use Rattle.image.proofs.Sized.{row-end}
-use Rattle.image.proofs.Accept.{commands-length, command-at, bounds-length, input-bound-at, row-length, gains-length, gain-at}
+use Rattle.interface.proofs.Accept.{commands-length, command-at, bounds-length, input-bound-at, row-length, gains-length, gain-at}
 use Rattle.row_sums.specs.Terms.{termAt, termRow, termCount, termMost, PointsPass, TermsReady}
 use Rattle.row_sums.specs.declared.Term.{Term}
 use Rattle.row_sums.specs.declared.Term.the-variants.{Other, Range, GainRange}
 
 -- ---- a row
--- the rest of the image from an offset on
-rest-is : (s : List ℕ) (off : ℕ) → take (length s - off) (drop off s) ≡ drop off s
-rest-is s off = take-all (length s - off) (drop off s) (simp length-drop (omega arith))
-
-pub rest-from : (s : List ℕ) (off at : ℕ) → off ≡ at → take (length s - off) (drop off s) ≡ drop at s
-rest-from s off at e = rest-is s off ∙ ap (λ (k : ℕ). drop k s) e
-
 -- it has every term
 pub term-end : (t : Term) (z : Sizes) (s row : List ℕ) (i j : ℕ) → TermsReady t z s row i → j < termCount t z → 4 * j + 4 ≤ length row
 unfolding termRow termCount

@@ -9,10 +9,10 @@ use lib.IntN.{ℤ, natAbs}
 use Rattle.integer.specs.Round.{ceil}
 use Rattle.gradient.specs.Bounds.{rangeY}
 use Rattle.image.specs.declared.Sizes.{Sizes}
-use Rattle.image.specs.Order.{allTo}
+use Rattle.gradient.specs.Index.{allTo}
 use Rattle.image.specs.Sizes.{Whole, commandCount}
 use Rattle.image.specs.Layout.{costRow, gainRow, costAt, gainAt, boundAt, entryAt, commandAt, problemAt}
-use Rattle.image.specs.Tables.{pointTest}
+use Rattle.interface.specs.Tables.{pointTest}
 use Rattle.row_sums.specs.declared.Term.{Term}
 use Rattle.row_sums.specs.declared.Term.the-variants.{Other, Range, GainRange}
 

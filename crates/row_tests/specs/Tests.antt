@@ -5,7 +5,7 @@ use mathlib.Core.Bool.{Bool}
 use mathlib.Core.List.{List}
 use Rattle.image.specs.declared.Sizes.{Sizes}
 use Rattle.image.specs.Sizes.{Whole}
-use Rattle.image.specs.Tables.{orderTest, symmetryTest, marginTest, totalTest, pointTest, rowTest}
+use Rattle.interface.specs.Tables.{orderTest, symmetryTest, marginTest, totalTest, pointTest, rowTest}
 use Rattle.row_sums.specs.Terms.{PointsPass}
 use Rattle.row_tests.specs.declared.Test.{Test}
 use Rattle.row_tests.specs.declared.Test.the-variants.{Ordered, Symmetric, Margin, Total, Point, Row}

@@ -2,9 +2,9 @@
 ghost use mathlib.Core.Path.{_≡_};
 ghost use Prim.Native.Nat.{_^_, _<_};
 ghost use Rattle.word.specs.Format.{top};
-ghost use Rattle.image.specs.Order.{allTo};
+ghost use Rattle.gradient.specs.Index.{allTo};
 ghost use Rattle.image.specs.Sizes.{Sound, Whole, commandCount};
-ghost use Rattle.image.specs.Tables.{pointTest, rowTest};
+ghost use Rattle.interface.specs.Tables.{pointTest, rowTest};
 ghost use Rattle.row_tests.specs.Tests.{testAt, TestReady};
 ghost use Rattle.row_tests.specs.declared.Test.the-variants.{Row};
 use image::Sizes;

@@ -6,10 +6,10 @@ use lib.IntN.{ℤ}
 use native.Mathlib.Omega.{arith}
 use lib.ListN.{length, take, length-take}
 use borrow.Author.Tests.{eq-eqb}
-use Rattle.line.specs.Line.{lineAt}
-use Rattle.image.specs.declared.Sizes.{Sizes}
 use Rattle.word.specs.Word.{Words, wordsOut}
 use Rattle.word.proofs.Words.{length-words}
+use Rattle.image.specs.declared.Sizes.{Sizes}
+use Rattle.line.specs.Line.{lineAt}
 use Rattle.frame.specs.declared.Head.{Head}
 use Rattle.frame.specs.declared.Head.the-variants.{Sized, Unsized}
 use Rattle.frame.specs.Frame.{headOf}

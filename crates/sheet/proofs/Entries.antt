@@ -10,7 +10,7 @@ use lib.Dec.{eqb, leb, lit<}
 use lib.Ieee.{binary64, ofBits}
 use lib.ListN.{length}
 use borrow.Author.Tests.{eqb-true, leb-true}
-use Rattle.word.specs.Hex.{hexAt}
+use Rattle.hex.specs.Hex.{hexAt}
 use Rattle.word.specs.Word.{wordAt}
 use Rattle.double.specs.Double.{rounded, ruleOf}
 use Rattle.image.specs.Order.{orElse}

@@ -12,15 +12,15 @@ use native.Mathlib.Omega.{arith}
 use lib.ListN.{length, getD, set, length-set}
 use lib.Seq.{getD-set-same, getD-set-other}
 use borrow.Author.Count.{below-more}
-use Rattle.line.specs.Line.{lineAt}
-use Rattle.line.specs.declared.Line.{Line}
 use Rattle.double.specs.Double.{convert, accepted, rounded, roundUp, roundDown, convertLimits}
 use Rattle.double.specs.declared.Converted.the-variants.{Word, Refused}
 use Rattle.double.specs.declared.LimitWords.the-variants.{Pair, NoPair}
-use Rattle.image.specs.declared.Sizes.{Sizes}
 use Rattle.double.specs.declared.Limits.{Limits}
 use Rattle.double.proofs.Convert.{convert-word}
+use Rattle.image.specs.declared.Sizes.{Sizes}
 use Rattle.image.specs.Sizes.{Sound}
+use Rattle.line.specs.Line.{lineAt}
+use Rattle.line.specs.declared.Line.{Line}
 use Rattle.frame.specs.declared.Due.{Due}
 use Rattle.frame.specs.declared.Value.{Value}
 use Rattle.frame.specs.declared.Value.the-variants.{Double, Fault}

@@ -4,9 +4,10 @@ use mathlib.Core.List.{List, _++_, append-nil}
 use Prim.Native.Nat.{ℕ, _≤_, _<_}
 use native.Mathlib.Omega.{arith}
 use lib.ListN.{length, getD, take, drop, drop-of-length-le}
-use lib.Seq.{take-at, drop-at, getD-take, length-take-le, ext-getD}
+use lib.Seq.{take-at, drop-at}
 use lib.IntN.{ℤ, pos}
 use Rattle.word.specs.Word.{Words}
+use Rattle.word.proofs.Buffer.{taken}
 use Rattle.gradient.specs.Problem.{coldStart}
 use Rattle.gradient.specs.Demand.{InWord, Demand3}
 use Rattle.gradient.proofs.Index.{all1-at, coldStart-at}
@@ -17,19 +18,13 @@ use Rattle.gradient.proofs.Sizes.{word-fits}
 use Rattle.image.specs.declared.Sizes.{Sizes}
 use Rattle.image.specs.Sizes.{commandCount}
 use Rattle.image.specs.Layout.{sizesOf, commandAt, problemOf}
-use Rattle.image.specs.Calls.{inputsOf, startOf, commandsAfter, boundsAfter}
-use Rattle.image.specs.Accepted.{Accepted, Solvable}
+use Rattle.interface.specs.Calls.{inputsOf, startOf, commandsAfter, boundsAfter}
+use Rattle.interface.specs.Accepted.{Accepted, Solvable}
 use Rattle.array.specs.Arrays.{Filled}
 use Rattle.rows.proofs.Small.{clamp-most}
 use Rattle.iteration.specs.declared.State.{State}
 use Rattle.loading.proofs.Tables.{nothing, command, command-is, count-is}
 use Rattle.solve.specs.Reached.{coldAt, ReachedOf}
-
--- the first n elements of an array are a list of n that agrees with it
-pub taken : {A : Type 0} (d : A) (l r : List A) (n : ℕ) → n ≤ length l → length r ≡ n → ((i : ℕ) → i < n → getD l i d ≡ getD r i d) → take n l ≡ r
-taken d l r n h e f =
-    let k = length-take-le n l h in
-    ext-getD d (take n l) r (k ∙ sym e) (λ i j. let b : i < n = omega arith in getD-take n l i d b ∙ f i b)
 
 -- x in front, and y in the place of all that is behind it
 pub behind : (x y s : List ℕ) (at k : ℕ) → length x ≡ at → length s ≤ k → take at (x ++ s) ++ (y ++ drop k (drop at (x ++ s))) ≡ x ++ y

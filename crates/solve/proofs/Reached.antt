@@ -10,7 +10,8 @@ use lib.IntN.{ℤ, pos, _-ℤ_}
 use Rattle.integer.specs.Round.{clamp}
 use Rattle.word.specs.Word.{wordAt, wordsAt}
 use Rattle.word.proofs.Words.{getD-words-at}
-use Rattle.gradient.specs.Problem.{Command, Problem, F, top}
+use Rattle.word.specs.Format.{top}
+use Rattle.gradient.specs.Problem.{Command, Problem, F}
 use Rattle.gradient.specs.Scheme.{Iterate, linear, nextZ, nextY, iterate}
 use Rattle.gradient.specs.Bounds.{Error, slack, weight, nextE, nextQ, errorAfter, rangeA}
 use Rattle.gradient.specs.Demand.{ordered, headroom, inputsWithin, startWithin, InRange, Demand3}
@@ -22,8 +23,8 @@ use Rattle.gradient.proofs.Demand.{demand3}
 use Rattle.gradient.proofs.Sizes.{F-most, word-abs, width-fits, weight-most, e-fits}
 use Rattle.image.specs.Sizes.{commandCount}
 use Rattle.image.specs.Layout.{sizesOf, problemOf}
-use Rattle.image.specs.Calls.{inputsOf, startOf}
-use Rattle.image.specs.Accepted.{Solvable}
+use Rattle.interface.specs.Calls.{inputsOf, startOf}
+use Rattle.interface.specs.Accepted.{Solvable}
 use Rattle.dot.specs.Sums.{productAt, weightTo}
 use Rattle.rows.specs.declared.Terms.{Terms}
 use Rattle.rows.specs.Rows.{unclampedAt, zAt, eAt, Fitting}
@@ -92,7 +93,7 @@ module _ {p : Problem} {inputs start : List ℤ} {m : List (List ℤ)} {t : Term
         (sumN-cong _ _ N (λ j l. rw (rep .rows i h j l, at .at-q .each j l))
         ∙ sym (weight-sum (command p i .row) (E .q) N (of-command i h .row-length) (error-q-length p k)))
 
-    headroom-A : (i : ℕ) → i < N → rangeA p (command p i) ≤ top p
+    headroom-A : (i : ℕ) → i < N → rangeA p (command p i) ≤ top (p .W)
     headroom-A i h = omega (arith, headroom-at p (chk .room) nothing i h .fitsAB)
 
     pub ready : Ready m t s

@@ -10,7 +10,7 @@ use Rattle.gradient.specs.Scheme.{iterate}
 use Rattle.gradient.specs.Bounds.{errorAfter}
 use Rattle.image.specs.declared.Sizes.{Sizes}
 use Rattle.image.specs.Layout.{sizesOf, lowerAt, upperAt, problemOf}
-use Rattle.image.specs.Calls.{inputsOf, startOf}
+use Rattle.interface.specs.Calls.{inputsOf, startOf}
 use Rattle.array.specs.Arrays.{Filled}
 use Rattle.iteration.specs.declared.State.{State}
 

@@ -1,7 +1,7 @@
 // The checks of an image's tables, 7 to 12, in order, and the number of an image.
 ghost use mathlib.Core.Path.{_≡_};
 ghost use Rattle.image.specs.Sizes.{Whole};
-ghost use Rattle.image.specs.Tables.{tablesNumber, imageNumber};
+ghost use Rattle.interface.specs.Tables.{tablesNumber, imageNumber};
 use image::Sizes;
 use row_tests::Test;
 

@@ -4,14 +4,14 @@ use mathlib.Core.List.{List, [], _∷_, _++_}
 use Prim.Native.Nat.{ℕ, _+_, _≤_, _*_}
 use native.Mathlib.Omega.{arith}
 use lib.ListN.{length, set, length-append}
-use Rattle.word.specs.Buffer.{putAt}
-use Rattle.word.specs.Hex.{hexDigits}
-use Rattle.word.proofs.Buffer.{put-next, set-next}
-use Rattle.word.proofs.Hex.{length-hex}
 use mathlib.Core.Bool.{true, false}
 use lib.Dec.{eqb}
 use borrow.Author.Tests.{eqb-true, ne-eqb}
 use Rattle.integer.proofs.Tests.{both}
+use Rattle.word.specs.Buffer.{putAt}
+use Rattle.hex.specs.Hex.{hexDigits}
+use Rattle.word.proofs.Buffer.{put-next, set-next}
+use Rattle.hex.proofs.Hex.{length-hex}
 use Rattle.text.specs.Text.{isState, line}
 
 -- ---- a line: command, space, bound, byte 10

@@ -4,7 +4,7 @@ use mathlib.Core.Bool.{true, false}
 use mathlib.Core.List.{List, [], _∷_}
 use Prim.Native.Nat.{ℕ}
 use Rattle.word.specs.Digits.{numberBE, digitsBE}
-use Rattle.word.specs.Hex.{isHex, digitOf, hexes, hexAt, digitByte, hexDigits}
+use Rattle.hex.specs.Hex.{isHex, digitOf, hexes, hexAt, digitByte, hexDigits}
 use Rattle.word.specs.Word.{natBE, bytesBE}
 use Rattle.text.specs.Text.{isState, line, lines, refusal, stateWords}
 

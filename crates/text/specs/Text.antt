@@ -6,7 +6,7 @@ use mathlib.Core.List.{List, [], _∷_, _++_}
 use lib.Dec.{eqb}
 use lib.ListN.{length, getD, take}
 use Rattle.word.specs.Digits.{digitsBE}
-use Rattle.word.specs.Hex.{hexes, hexAt, hexDigits}
+use Rattle.hex.specs.Hex.{hexes, hexAt, hexDigits}
 use Rattle.word.specs.Word.{natAt, bytesOf}
 use Rattle.text.specs.declared.Text.{Text}
 

@@ -23,7 +23,7 @@ pub fn is_state(file: &[u8], nx: usize) -> bool
     if file[digits] != 10 {
         return false;
     }
-    word::are_hex(file, 0, digits)
+    hex::are_hex(file, 0, digits)
 }
 
 // Zeros. As calls, they keep their literals out of the goals.
@@ -47,7 +47,7 @@ pub fn state_words(file: &[u8], nx: usize) -> [u8; 64]
     let mut r = blank_words();
     let mut i = 0;
     while i < nx {
-        word::put_nat(&mut r, 4 * i, word::hex_at(file, 8 * i, 8));
+        word::put_nat(&mut r, 4 * i, hex::hex_at(file, 8 * i, 8));
         i += 1;
     }
     r
@@ -57,9 +57,9 @@ fn put_line(out: &mut [u8], at: usize, command: u64, bound: u64)
     requires { ⌜ at + 18 ≤ length (now out) ⌝ }
     ensures { λ _. ⌜ now (out .exit) ≡ putAt (now (out .entry)) at (line command bound) ⌝ }
 {
-    word::put_hex(out, at, 8, command);
+    hex::put_hex(out, at, 8, command);
     out[at + 8] = b' ';
-    word::put_hex(out, at + 9, 8, bound);
+    hex::put_hex(out, at + 9, 8, bound);
     out[at + 17] = b'\n';
 }
 

@@ -10,9 +10,9 @@ use Rattle.gradient.specs.Demand.{inputsWithin, startWithin}
 use Rattle.image.specs.declared.Sizes.{Sizes}
 use Rattle.image.specs.Sizes.{Whole, commandCount}
 use Rattle.image.specs.Layout.{problemAt, problemOf}
-use Rattle.image.specs.Calls.{inputsOf, startOf, callNumber}
+use Rattle.interface.specs.Calls.{inputsOf, startOf, callNumber}
 use borrow.Author.Needs.{needs}
-use Rattle.image.proofs.Accept.{whole-of}
+use Rattle.interface.proofs.Accept.{whole-of}
 use Rattle.calls.proofs.call_number.Statement.{statement}
 use Rattle.calls.proofs.call_number.Tie as tie
 

@@ -1,7 +1,7 @@
 -- `calls::solve_number` meets its contract. Assumes nothing.
 use mathlib.Core.Path.{sym, _∙_}
-use Rattle.image.specs.Calls.{solveNumber}
-use Rattle.image.proofs.Accept.{accepted}
+use Rattle.interface.specs.Calls.{solveNumber}
+use Rattle.interface.proofs.Accept.{accepted}
 use Rattle.image.proofs.Ordering.{refused, onward}
 use borrow.Author.Needs.{needs}
 use Rattle.calls.proofs.solve_number.Statement.{statement}

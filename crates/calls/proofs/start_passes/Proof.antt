@@ -6,9 +6,9 @@ use mathlib.Core.Bool.{true}
 use Prim.Native.Nat.{ℕ, _-_, _≤_}
 use borrow.Author.Tests.{not-true, not-false}
 use Rattle.integer.proofs.Machine.{back}
-use Rattle.image.specs.Order.{allTo}
+use Rattle.gradient.specs.Index.{allTo}
 use Rattle.image.specs.Sizes.{commandCount}
-use Rattle.image.proofs.Ordering.{all-fails}
+use Rattle.gradient.proofs.Tests.{all-fails}
 use Rattle.calls.proofs.Within.{startTest, start-to}
 use Rattle.calls.proofs.start_passes.Statement.{statement}
 use Rattle.calls.proofs.start_passes.Tie as tie

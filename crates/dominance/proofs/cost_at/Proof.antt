@@ -5,7 +5,7 @@ use Prim.Native.Nat.{ℕ, _*_}
 use lib.Signed.{natAbs-le}
 use Rattle.integer.proofs.Machine.{back}
 use Rattle.word.specs.Word.{wordAt}
-use Rattle.row_sums.proofs.Rows.{rest-from}
+use Rattle.word.proofs.Buffer.{rest-from}
 use borrow.Author.Needs.{needs}
 use Rattle.dominance.proofs.cost_at.Statement.{statement}
 use Rattle.dominance.proofs.cost_at.Tie as tie

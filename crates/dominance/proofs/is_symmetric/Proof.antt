@@ -6,11 +6,11 @@ use mathlib.Core.Bool.{Bool, true}
 use Prim.Native.Nat.{ℕ, _-_, _≤_}
 use borrow.Author.Tests.{not-true, not-false}
 use Rattle.integer.proofs.Machine.{back}
-use Rattle.image.specs.Order.{allTo}
+use Rattle.gradient.specs.Index.{allTo}
 use Rattle.image.specs.Sizes.{commandCount}
 use Rattle.image.specs.Layout.{costAt}
-use Rattle.image.specs.Tables.{eqZ, symmetryTest}
-use Rattle.image.proofs.Ordering.{all-fails}
+use Rattle.interface.specs.Tables.{eqZ, symmetryTest}
+use Rattle.gradient.proofs.Tests.{all-fails}
 use Rattle.dominance.proofs.is_symmetric.Statement.{statement}
 use Rattle.dominance.proofs.is_symmetric.Tie as tie
 

@@ -6,7 +6,7 @@ use mir.Syntax.{w64}
 use mir.Val.{SFits}
 use mir.Facts.{toZ-ofZ}
 use Rattle.integer.proofs.Machine.{back, sfits-sub}
-use Rattle.image.specs.Tables.{marginAt}
+use Rattle.interface.specs.Tables.{marginAt}
 use borrow.Author.Needs.{needs}
 use Rattle.dominance.proofs.margin.Statement.{statement}
 use Rattle.dominance.proofs.margin.Tie as tie

@@ -6,7 +6,8 @@ use lib.IntN.{pos}
 use mir.Syntax.{w64}
 use mir.Facts.{toZ-pos}
 use Rattle.row_sums.specs.Terms.{termRow, termCount, termMost, TermRoom}
-use Rattle.row_sums.proofs.Rows.{rest-from, others-terms}
+use Rattle.word.proofs.Buffer.{rest-from}
+use Rattle.row_sums.proofs.Rows.{others-terms}
 use borrow.Author.Needs.{needs}
 use Rattle.dominance.proofs.others.Statement.{statement}
 use Rattle.dominance.proofs.others.Tie as tie

@@ -6,7 +6,7 @@ use mir.Syntax.{w64}
 use mir.Val.{SFits}
 use mir.Facts.{toZ-ofZ}
 use Rattle.integer.proofs.Machine.{back, sfits-add}
-use Rattle.image.specs.Tables.{totalAt}
+use Rattle.interface.specs.Tables.{totalAt}
 use borrow.Author.Needs.{needs}
 use Rattle.dominance.proofs.total.Statement.{statement}
 use Rattle.dominance.proofs.total.Tie as tie

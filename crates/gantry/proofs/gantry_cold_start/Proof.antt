@@ -2,7 +2,7 @@
 use mathlib.Core.Path.{sym, _∙_}
 use lib.ListN.{length}
 use borrow.Author.Tests.{eq-eqb, ne-eqb}
-use Rattle.image.proofs.Demand.{cold-accepted}
+use Rattle.interface.proofs.Demand.{cold-accepted}
 use borrow.Author.Needs.{needs}
 use Rattle.gantry.proofs.gantry_cold_start.Statement.{statement}
 use Rattle.gantry.proofs.gantry_cold_start.Tie as tie

@@ -2,9 +2,9 @@
 use mathlib.Core.Path.{sym, subst, _∙_}
 use lib.ListN.{length}
 use borrow.Author.Tests.{eq-eqb, ne-eqb}
-use Rattle.image.specs.Demand.{Guarantee}
-use Rattle.image.proofs.Demand.{solvable}
-use Rattle.image.proofs.Guaranteed.{guaranteed}
+use Rattle.interface.specs.Demand.{Guarantee}
+use Rattle.interface.proofs.Demand.{solvable}
+use Rattle.interface.proofs.Guaranteed.{guaranteed}
 use borrow.Author.Needs.{needs}
 use Rattle.gantry.proofs.gantry_solve.Statement.{statement}
 use Rattle.gantry.proofs.gantry_solve.Tie as tie

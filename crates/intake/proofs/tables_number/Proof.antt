@@ -1,7 +1,7 @@
 -- `intake::tables_number` meets its contract: the buffer holds the words' image. Assumes nothing.
 use mathlib.Core.Path.{ap, _∙_}
 use native.Mathlib.Omega.{arith}
-use Rattle.image.specs.Tables.{tablesNumber}
+use Rattle.interface.specs.Tables.{tablesNumber}
 use Rattle.image.specs.declared.Sizes.{Sizes}
 use borrow.Author.Needs.{needs}
 use Rattle.intake.specs.Intake.{ownTables}

@@ -11,8 +11,8 @@ use borrow.Author.Tests.{eq-eqb, not-true, not-false}
 use Rattle.image.specs.Sizes.{Sound, commandCount}
 use Rattle.image.specs.Layout.{sizesOf}
 use Rattle.image.specs.declared.Sizes.{Sizes}
-use Rattle.image.specs.Calls.{coldAnswer, solveNumber, solveAnswer}
-use Rattle.image.proofs.Accept.{accepted}
+use Rattle.interface.specs.Calls.{coldAnswer, solveNumber, solveAnswer}
+use Rattle.interface.proofs.Accept.{accepted}
 use Rattle.text.specs.Text.{Holds, isState, lines, stateWords}
 use Rattle.text.proofs.Written.{state-length}
 use Rattle.label_text.specs.Label.{imageText}

@@ -5,7 +5,7 @@ use Prim.Native.Nat.{_+_}
 use native.Mathlib.Omega.{arith}
 use lib.ListN.{getD}
 use borrow.Author.Tests.{eq-eqb, ne-eqb, not-true, not-false}
-use Rattle.word.specs.Hex.{hexes}
+use Rattle.hex.specs.Hex.{hexes}
 use Rattle.line.proofs.Laws.{told, no-line, no-frame, a-frame, cut-frame}
 use borrow.Author.Needs.{needs}
 use Rattle.line.proofs.line_at.Statement.{statement}

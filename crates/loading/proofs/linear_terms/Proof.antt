@@ -1,9 +1,9 @@
 -- `loading::linear_terms` meets its contract. Assumes nothing.
 use native.Mathlib.Omega.{arith}
-use mathlib.Core.Path.{_≡_, ap, _∙_}
+use mathlib.Core.Path.{_≡_, _∙_}
 use mathlib.Core.List.{List}
 use Prim.Native.Nat.{ℕ, _*_, _^_, _-_, _≤_}
-use lib.ListN.{drop, length-take, length-drop}
+use lib.ListN.{length-take, length-drop}
 use lib.IntN.{ℤ, pos, natAbs}
 use mir.Syntax.{w64}
 use mir.Val.{toZ, ofZ}
@@ -14,7 +14,8 @@ use Rattle.image.specs.Layout.{gainRow}
 use Rattle.array.proofs.Filling.{Filling, none, more, all}
 use Rattle.dot.specs.Sums.{inputTerm, Sums}
 use Rattle.loading.specs.Tables.{linearAt}
-use Rattle.loading.proofs.Tables.{rest, linear-is}
+use Rattle.word.proofs.Buffer.{rest-from}
+use Rattle.loading.proofs.Tables.{linear-is}
 use Rattle.loading.proofs.linear_terms.Statement.{statement}
 use Rattle.loading.proofs.linear_terms.Tie as tie
 
@@ -78,7 +79,7 @@ loop-again c =
     let w = c .before .before .before .before .before .before .before .words-of in
     let at = c .before .before .before .gain-offset in
     let i = c .before .before .before .before .before .loop .i in
-    let e = rest (a .args .image .now) (at .result) ∙ ap (λ (k : ℕ). drop k (a .args .image .now)) (at .ensures .0) in
+    let e = rest-from (a .args .image .now) _ _ (at .ensures .0) in
     let s : Sums (inputTerm (gainRow (a .args .z) (a .args .image .now) i) (w .result) (a .args .z .b)) 0 (a .args .z .nx) (c .row-sum .result) = rw e at (c .row-sum .ensures) in
     more (pos 0) (LinearIs (a .args .z) (a .args .image .now) (a .args .state .now)) (toZ w64 (ofZ w64 (c .row-sum .result))) (a .pre .0 .sizes .n-high) (c .before .before .before .before .loop-test .taken) (c .before .before .before .before .before .loop .inv)
     (rw (back (c .row-sum .result) (c .row-sum .ok)) (s .0 ∙ linear-is (a .args .z) (a .args .image .now) (a .args .state .now) (w .result) i (w .ensures .0), omega (arith, s .1, a .pre .0 .sizes .nx-high)))

@@ -3,14 +3,14 @@ use native.Mathlib.Omega.{arith}
 use mathlib.Core.Path.{ap, _∙_}
 use mathlib.Core.List.{List, []}
 use Prim.Native.Nat.{ℕ, _-_}
-use lib.ListN.{drop, length-take, length-drop}
+use lib.ListN.{length-take, length-drop}
 use lib.IntN.{ℤ, pos}
 use Rattle.image.specs.declared.Sizes.{Sizes}
 use Rattle.image.specs.Sizes.{commandCount}
 use Rattle.image.specs.Layout.{entryOf, entryAt}
 use Rattle.array.specs.Arrays.{Filled}
 use Rattle.array.proofs.Filling.{Filling, none, more, all}
-use Rattle.loading.proofs.Tables.{rest}
+use Rattle.word.proofs.Buffer.{rest-from}
 use Rattle.loading.proofs.matrix.Statement.{statement}
 use Rattle.loading.proofs.matrix.Tie as tie
 
@@ -67,7 +67,7 @@ loop-again c =
     let a = c .before .before .before .before .before .before .before .before in
     let at = c .before .before .cost-offset in
     let i = c .before .before .before .before .loop .i in
-    let e = rest (a .args .image .now) (at .result) ∙ ap (λ (k : ℕ). drop k (a .args .image .now)) (at .ensures .0) in
+    let e = rest-from (a .args .image .now) _ _ (at .ensures .0) in
     more [] (RowOf (a .args .z) (a .args .image .now)) (c .matrix-row .result) (a .pre .sizes .n-high) (c .before .before .before .loop-test .taken) (c .before .before .before .before .loop .inv)
     (record { sized = c .matrix-row .ensures .sized; each = λ j h. c .matrix-row .ensures .each j h ∙ ap (λ (l : List ℕ). entryOf (a .args .z .b) l i j) e })
 

@@ -6,7 +6,7 @@ use mir.Syntax.{w64}
 use mir.Val.{toZ, ofZ}
 use Rattle.integer.proofs.Machine.{back}
 use Rattle.image.specs.Sizes.{commandCount}
-use Rattle.image.specs.Tables.{leastTo, largestTo, marginAt, totalAt, leastMargin, largestTotal}
+use Rattle.interface.specs.Tables.{leastTo, largestTo, marginAt, totalAt, leastMargin, largestTotal}
 use Rattle.momentum.proofs.Least.{least-next, largest-next}
 use Rattle.momentum.proofs.extremes_of.Statement.{statement}
 use Rattle.momentum.proofs.extremes_of.Tie as tie

@@ -10,7 +10,7 @@ use mir.Val.{toZ, ofZ}
 use Rattle.integer.proofs.Tests.{lt-not-le, nlt-le}
 use Rattle.integer.proofs.Machine.{back}
 use Rattle.image.specs.Layout.{momentumAt}
-use Rattle.image.specs.Tables.{momentumRange}
+use Rattle.interface.specs.Tables.{momentumRange}
 use Rattle.momentum.proofs.Ratio.{lt-less}
 use borrow.Author.Needs.{needs}
 use Rattle.momentum.proofs.is_momentum.Statement.{statement}

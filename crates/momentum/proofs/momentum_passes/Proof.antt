@@ -7,7 +7,7 @@ use mir.Val.{SFits}
 use mir.Facts.{toZ-ofZ}
 use Rattle.integer.proofs.Laws.{abs-add, abs-sub}
 use Rattle.integer.proofs.Machine.{back, sfits-abs}
-use Rattle.image.specs.Tables.{momentumRatio}
+use Rattle.interface.specs.Tables.{momentumRatio}
 use Rattle.momentum.proofs.Ratio.{momentum-most, least-most, largest-most}
 use borrow.Author.Needs.{needs}
 use Rattle.momentum.proofs.momentum_passes.Statement.{statement}

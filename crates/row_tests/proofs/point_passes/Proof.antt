@@ -4,7 +4,7 @@ use borrow.Author.Tests.{le-leb, lt-leb}
 use Rattle.word.specs.Format.{top}
 use Rattle.gradient.specs.Bounds.{rangeP}
 use Rattle.image.specs.Layout.{problemAt, commandAt}
-use Rattle.image.specs.Tables.{pointTest}
+use Rattle.interface.specs.Tables.{pointTest}
 use borrow.Author.Needs.{needs}
 use Rattle.row_tests.proofs.point_passes.Statement.{statement}
 use Rattle.row_tests.proofs.point_passes.Tie as tie

@@ -1,10 +1,11 @@
 -- `row_tests::row_passes` meets its contract. Assumes nothing.
 use native.Mathlib.Omega.{arith}
 use mathlib.Core.Path.{refl}
-use Rattle.image.specs.Tables.{rowTest}
+use Rattle.interface.specs.Tables.{rowTest}
 use Rattle.row_sums.specs.Terms.{termRow, termCount, termMost, TermRoom}
 use Rattle.row_tests.specs.Tests.{TestRoom}
-use Rattle.row_sums.proofs.Rows.{rest-from, range-terms, gain-terms}
+use Rattle.word.proofs.Buffer.{rest-from}
+use Rattle.row_sums.proofs.Rows.{range-terms, gain-terms}
 use borrow.Author.Needs.{needs}
 use Rattle.row_tests.proofs.row_passes.Statement.{statement}
 use Rattle.row_tests.proofs.row_passes.Tie as tie

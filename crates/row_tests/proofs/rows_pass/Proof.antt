@@ -5,9 +5,9 @@ use mathlib.Core.Path.{_≡_, refl, sym, subst, _∙_}
 use mathlib.Core.Bool.{true}
 use Prim.Native.Nat.{ℕ, _-_, _≤_}
 use borrow.Author.Tests.{not-true, not-false}
-use Rattle.image.specs.Order.{allTo}
+use Rattle.gradient.specs.Index.{allTo}
 use Rattle.image.specs.Sizes.{commandCount}
-use Rattle.image.proofs.Ordering.{all-fails}
+use Rattle.gradient.proofs.Tests.{all-fails}
 use Rattle.row_tests.specs.Tests.{testAt}
 use Rattle.row_tests.proofs.rows_pass.Statement.{statement}
 use Rattle.row_tests.proofs.rows_pass.Tie as tie

@@ -9,7 +9,7 @@ use Rattle.gradient.specs.Problem.{coldStart}
 use Rattle.image.specs.declared.Sizes.{Sizes}
 use Rattle.image.specs.Sizes.{Whole, commandCount}
 use Rattle.image.specs.Layout.{problemOf}
-use Rattle.image.specs.Calls.{coldAnswer}
+use Rattle.interface.specs.Calls.{coldAnswer}
 use Rattle.solve.proofs.Answers.{cold-fit, cold-are}
 use borrow.Author.Needs.{needs}
 use Rattle.solve.proofs.cold_start.Statement.{statement}

@@ -6,7 +6,7 @@ use Prim.Native.Nat.{ℕ, _*_, _-_, _≤_}
 use Rattle.image.specs.declared.Sizes.{Sizes}
 use Rattle.image.specs.Sizes.{Whole, commandCount}
 use Rattle.image.specs.Layout.{sizesOf, problemOf}
-use Rattle.image.specs.Calls.{inputsOf}
+use Rattle.interface.specs.Calls.{inputsOf}
 use Rattle.loading.proofs.Tables.{Represents}
 use Rattle.loading.proofs.Tables.{represents}
 use Rattle.solve.specs.Reached.{FirstOf, ReachedOf}

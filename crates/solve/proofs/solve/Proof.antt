@@ -8,7 +8,7 @@ use lib.Seq.{length-take-le}
 use Rattle.word.specs.Word.{Words}
 use Rattle.image.specs.Sizes.{commandCount}
 use Rattle.image.specs.Layout.{sizesOf}
-use Rattle.image.specs.Calls.{commandsAfter, boundsAfter, solveAnswer}
+use Rattle.interface.specs.Calls.{commandsAfter, boundsAfter, solveAnswer}
 use Rattle.solve.proofs.Answers.{behind, few, commands-fit, commands-are, bounds-are}
 use borrow.Author.Needs.{needs}
 use Rattle.solve.proofs.solve.Statement.{statement}

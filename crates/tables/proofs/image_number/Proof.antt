@@ -6,10 +6,10 @@ use Rattle.image.specs.Order.{orElse}
 use Rattle.image.specs.Sizes.{Whole}
 use Rattle.image.specs.Layout.{sizesOf}
 use Rattle.image.specs.Checks.{headNumber, bodyNumber}
-use Rattle.image.specs.Tables.{tablesNumber, imageNumber}
-use Rattle.image.proofs.Accept.{head-whole}
+use Rattle.interface.specs.Tables.{tablesNumber, imageNumber}
+use Rattle.interface.proofs.Accept.{head-whole}
 use Rattle.image.proofs.Ordering.{refused, onward}
-use Rattle.image.proofs.Accept.{whole-of}
+use Rattle.interface.proofs.Accept.{whole-of}
 use borrow.Author.Needs.{needs}
 use Rattle.tables.proofs.image_number.Statement.{statement}
 use Rattle.tables.proofs.image_number.Tie as tie

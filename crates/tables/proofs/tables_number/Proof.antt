@@ -5,9 +5,9 @@ use mathlib.Core.List.{List}
 use Prim.Native.Nat.{ℕ}
 use borrow.Author.Tests.{not-true, not-false}
 use Rattle.image.specs.declared.Sizes.{Sizes}
-use Rattle.image.specs.Order.{allTo}
+use Rattle.gradient.specs.Index.{allTo}
 use Rattle.image.specs.Sizes.{commandCount}
-use Rattle.image.specs.Tables.{orderTest, symmetryTest, marginTest, totalTest, momentumRange, momentumRatio, pointTest, tablesNumber}
+use Rattle.interface.specs.Tables.{orderTest, symmetryTest, marginTest, totalTest, momentumRange, momentumRatio, pointTest, tablesNumber}
 use Rattle.row_tests.specs.Tests.{testAt, TestRoom}
 use borrow.Author.Needs.{needs}
 use Rattle.tables.proofs.tables_number.Statement.{statement}

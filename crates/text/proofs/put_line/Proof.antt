@@ -6,7 +6,7 @@ use mathlib.Core.List.{List}
 use Prim.Native.Nat.{ℕ, _+_}
 use lib.ListN.{set, length-set}
 use Rattle.word.specs.Buffer.{putAt}
-use Rattle.word.specs.Hex.{hexDigits}
+use Rattle.hex.specs.Hex.{hexDigits}
 use Rattle.text.proofs.Written as written
 use Rattle.text.proofs.put_line.Statement.{statement}
 use Rattle.text.proofs.put_line.Tie as tie

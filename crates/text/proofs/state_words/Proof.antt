@@ -5,7 +5,7 @@ use mathlib.Core.Path.{_≡_, refl, sym, ap, subst, _∙_}
 use Prim.Native.Nat.{ℕ, _+_, _*_, _-_, _≤_}
 use lib.ListN.{length, take}
 use Rattle.word.specs.Buffer.{putAt}
-use Rattle.word.specs.Hex.{hexAt}
+use Rattle.hex.specs.Hex.{hexAt}
 use Rattle.word.specs.Word.{bytesOf}
 use Rattle.word.proofs.Words.{length-bytes}
 use Rattle.word.proofs.Buffer.{front-put}

@@ -1,0 +1,3 @@
+-- What the contracts of hex cite.
+pub mod Hex
+pub mod Examples

@@ -1,0 +1,224 @@
+-- An image with number 0 gives what the theorem of demand 3 and the code of a solve ask. Assumes nothing.
+use mathlib.Core.Path.{_≡_, refl, sym, ap, subst, _∙_}
+use mathlib.Core.Bool.{Bool, true, false, cond}
+use mathlib.Core.List.{List}
+use Prim.Native.Nat.{ℕ, _+_, _-_, _*_, _^_, _≤_, _<_}
+use native.Mathlib.Nat.{zero-add}
+use native.Mathlib.Omega.{arith}
+use lib.Dec.{eqb, leb, lit<}
+use lib.IntN.{ℤ, pos, negsuc, natAbs, _-ℤ_}
+use lib.ListN.{length, getD, length-map}
+use lib.Pow.{pow-mono, pow-add, pow-pos}
+use lib.Signed.{leZ, leZ-yes, _≤ℤ_}
+use borrow.Author.Tests.{leb-true, eqb-true}
+use Rattle.integer.specs.Parts.{int, nat, _⊖_}
+use Rattle.integer.proofs.Parts.{abs!, abs?, le?, whole}
+use Rattle.word.specs.Word.{natAt, wordAt, wordsAt}
+use Rattle.word.specs.Format.{top}
+use Rattle.word.proofs.Words.{getD-words-at, length-words-at}
+use Rattle.gradient.specs.Index.{allTo}
+use Rattle.gradient.specs.Problem.{Command, F}
+use Rattle.gradient.specs.Bounds.{rangeP, rangeY}
+use Rattle.gradient.specs.Sizes.{Sized, SizedCommand}
+use Rattle.gradient.specs.Demand.{InWord, ordered, headroom}
+use Rattle.gradient.proofs.Index.{tab-length, tab-at, tab-all1, at-all1, map-at}
+use Rattle.gradient.proofs.Tests.{of-true, at-ordered, at-headroom, RangesFit, all-at}
+use Rattle.image.specs.declared.Sizes.{Sizes}
+use Rattle.image.specs.Sizes.{commandCount, bodyCount, sound, Sound, Whole}
+use Rattle.image.specs.Layout.{sizesOf, problemAt, problemOf, commandAt, entryAt, entryOf, costAt, gainAt, gainRow, momentumAt, boundAt, boundPlace}
+use Rattle.image.specs.Checks.{headNumber, bodyNumber, wordTest, boundTest}
+use Rattle.interface.specs.Tables.{orderTest, symmetryTest, marginTest, totalTest, momentumRange, momentumRatio, pointTest, rowTest, othersAt, marginAt, tablesNumber, imageNumber}
+use Rattle.interface.specs.Accepted.{Accepted}
+use Rattle.image.proofs.Ordering.{passed, both, none}
+use Rattle.image.proofs.Sized.{sound-facts}
+use Rattle.image.proofs.Reading.{cost-word, gain-word, lower-word, upper-word, bound-word}
+
+-- ---- the tests that have passed
+pub head-whole : (s : List ℕ) → headNumber s ≡ 0 → Whole (sizesOf s) s
+unfolding headNumber
+head-whole s e =
+    let p₁ = passed (leb 32 (length s)) 6 _ (lit< tt) e in
+    let p₂ = passed (sound (sizesOf s)) 3 _ (lit< tt) (p₁ .1) in
+    let p₃ = passed (eqb (natAt s 24) 0) 3 _ (lit< tt) (p₂ .1) in
+    let p₄ = passed (eqb (natAt s 28) 0) 3 _ (lit< tt) (p₃ .1) in
+    let p₅ = passed (eqb (length s) (4 * (8 + bodyCount (sizesOf s)))) 6 _ (lit< tt) (p₄ .1) in
+    record { sizes = sound-facts (sizesOf s) (p₂ .0); size = eqb-true _ _ (p₅ .0) }
+
+pub record Passed (z : Sizes) (s : List ℕ) : Type 0 where
+  pub words : allTo (wordTest z s) (bodyCount z) ≡ true
+  pub bounds : allTo (boundTest z s) (z .nx) ≡ true
+  pub orders : allTo (orderTest z s) (commandCount z) ≡ true
+  pub symmetries : allTo (symmetryTest z s) (commandCount z) ≡ true
+  pub margins : allTo (marginTest z s) (commandCount z) ≡ true
+  pub totals : allTo (totalTest z s) (commandCount z) ≡ true
+  pub range : momentumRange z s ≡ true
+  pub ratio : momentumRatio z s ≡ true
+  pub points : allTo (pointTest z s) (commandCount z) ≡ true
+  pub rows : allTo (rowTest z s) (commandCount z) ≡ true
+
+pub tests-passed : (z : Sizes) (s : List ℕ) → bodyNumber z s ≡ 0 → tablesNumber z s ≡ 0 → Passed z s
+unfolding bodyNumber tablesNumber
+tests-passed z s e f =
+    let n = commandCount z in
+    let a₁ = passed (allTo (wordTest z s) (bodyCount z)) 5 _ (lit< tt) e in
+    let a₂ = passed (allTo (boundTest z s) (z .nx)) 5 _ (lit< tt) (a₁ .1) in
+    let p₁ = passed (allTo (orderTest z s) n) 7 _ (lit< tt) f in
+    let p₂ = passed (allTo (symmetryTest z s) n) 8 _ (lit< tt) (p₁ .1) in
+    let p₃ = passed (allTo (marginTest z s) n) 9 _ (lit< tt) (p₂ .1) in
+    let p₄ = passed (allTo (totalTest z s) n) 10 _ (lit< tt) (p₃ .1) in
+    let p₅ = passed (momentumRange z s) 11 _ (lit< tt) (p₄ .1) in
+    let p₆ = passed (momentumRatio z s) 11 _ (lit< tt) (p₅ .1) in
+    let p₇ = passed (allTo (pointTest z s) n) 12 _ (lit< tt) (p₆ .1) in
+    let p₈ = passed (allTo (rowTest z s) n) 12 _ (lit< tt) (p₇ .1) in
+    record {
+      words = a₁ .0;
+      bounds = a₂ .0;
+      orders = p₁ .0;
+      symmetries = p₂ .0;
+      margins = p₃ .0;
+      totals = p₄ .0;
+      range = p₅ .0;
+      ratio = p₆ .0;
+      points = p₇ .0;
+      rows = p₈ .0;
+    }
+
+-- ---- the problem's lists by index
+module _ (z : Sizes) (s : List ℕ) where
+  pub commands-length : length (problemAt z s .commands) ≡ commandCount z
+  unfolding problemAt
+  commands-length = tab-length (commandAt z s) (commandCount z)
+
+  pub command-at : (r : Command) (i : ℕ) → i < commandCount z → getD (problemAt z s .commands) i r ≡ commandAt z s i
+  unfolding problemAt
+  command-at r i h = tab-at (commandAt z s) (commandCount z) i r h
+
+  pub bounds-length : length (problemAt z s .inputBounds) ≡ z .nx
+  unfolding problemAt
+  bounds-length = length-map (wordsAt s (boundPlace z) (z .nx)) natAbs ∙ length-words-at s (boundPlace z) (z .nx)
+
+  pub input-bound-at : (j : ℕ) → j < z .nx → getD (problemAt z s .inputBounds) j 0 ≡ natAbs (boundAt z s j)
+  unfolding problemAt boundAt
+  input-bound-at j h =
+      map-at natAbs (wordsAt s (boundPlace z) (z .nx)) j (pos 0) 0 (rw (length-words-at s (boundPlace z) (z .nx)) h)
+      ∙ ap natAbs (getD-words-at s (boundPlace z) (z .nx) j h)
+
+  pub row-length : (i : ℕ) → length (commandAt z s i .row) ≡ commandCount z
+  unfolding commandAt
+  row-length i = tab-length (entryAt z s i) (commandCount z)
+
+  pub gains-length : (i : ℕ) → length (commandAt z s i .gains) ≡ z .nx
+  unfolding commandAt
+  gains-length i = length-words-at (gainRow z s i) 0 (z .nx)
+
+  pub gain-at : (i j : ℕ) → j < z .nx → getD (commandAt z s i .gains) j (pos 0) ≡ gainAt z s i j
+  unfolding commandAt
+  gain-at i j h = getD-words-at (gainRow z s i) 0 (z .nx) j h ∙ ap (wordAt (gainRow z s i)) (zero-add (4 * j))
+
+-- ---- an entry of M is a word: H's diagonal is at least one count
+diagonal : (f t : ℕ) (h : ℤ) → f ≤ t → pos 1 ≤ℤ h → natAbs h ≤ t → natAbs (pos f -ℤ h) ≤ t
+diagonal f t h k l m = let a = abs? (int h) m in abs! (nat f ⊖ int h) (omega (arith, whole)) (omega (arith, whole))
+
+off-diagonal : (t : ℕ) (h : ℤ) → natAbs h ≤ t → natAbs (pos 0 -ℤ h) ≤ t
+off-diagonal t h m = let a = abs? (int h) m in abs! (nat 0 ⊖ int h) (omega arith) (omega arith)
+
+positive : (d : ℤ) (k : ℕ) → pos 1 ≤ℤ (d -ℤ pos k) → pos 1 ≤ℤ d
+positive d k h = let a = le? (nat 1) (int d ⊖ nat k) h in omega (arith, whole)
+
+F-top : (b w : ℕ) → b + 2 ≤ w → 2 ^ b ≤ top w
+F-top b w h =
+    let p : 2 ^ (b + 1) ≤ 2 ^ (w - 1) = pow-mono (omega arith) in
+    let q : 2 ^ (b + 1) ≡ 2 ^ b * 2 = pow-add 2 b 1 in
+    omega (arith, pow-pos b)
+
+ranges : (z : Sizes) (s : List ℕ) (i : ℕ) → pointTest z s i ≡ true → rowTest z s i ≡ true → RangesFit (problemAt z s) (commandAt z s i)
+unfolding pointTest rowTest problemAt
+ranges z s i e f =
+    let a = both (leb (rangeP (problemAt z s) (commandAt z s i)) (top (z .w))) (leb (rangeY (problemAt z s) (commandAt z s i)) (top (z .w))) e in
+    record { fitsP = leb-true _ _ (a .0); fitsY = leb-true _ _ (a .1); fitsAB = leb-true _ _ f }
+
+module _ (z : Sizes) (s : List ℕ) (o : Sound z) (p : Passed z s) where
+  entry-word : (i j : ℕ) → i < commandCount z → j < commandCount z → natAbs (entryAt z s i j) ≤ top (z .w)
+  unfolding entryOf
+  entry-word i j h l = by (eqb i j) refl
+    where
+      margin : pos 1 ≤ℤ marginAt z s i
+      margin = leZ-yes (of-true (all-at (marginTest z s) (commandCount z) i h (p .margins)))
+
+      least : pos 1 ≤ℤ costAt z s i i
+      least = positive (costAt z s i i) (othersAt z s i) (unfold marginAt in margin)
+
+      by : (t : Bool) → eqb i j ≡ t → natAbs (cond t (pos (2 ^ z .b)) (pos 0) -ℤ costAt z s i j) ≤ top (z .w)
+      by true e =
+          diagonal (2 ^ z .b) (top (z .w)) (costAt z s i j) (F-top (z .b) (z .w) (o .b-word))
+          (subst (λ (k : ℕ). pos 1 ≤ℤ costAt z s i k) (eqb-true i j e) least) (cost-word z s o (p .words) i j h l)
+      by false e = off-diagonal (top (z .w)) (costAt z s i j) (cost-word z s o (p .words) i j h l)
+
+  momentum-most : natAbs (momentumAt z s) < 2 ^ z .b
+  momentum-most = below (momentumAt z s) (both (leZ (pos 0) (momentumAt z s)) (leZ (momentumAt z s) (pos (2 ^ z .b - 1))) (unfold momentumRange in p .range))
+    where
+      below : (m : ℤ) → (leZ (pos 0) m ≡ true) × (leZ m (pos (2 ^ z .b - 1)) ≡ true) → natAbs m < 2 ^ z .b
+      below (pos k) (e, f) = omega (arith, leb-true k (2 ^ z .b - 1) f, pow-pos (z .b))
+      below (negsuc k) (e, f) = absurd (of-true e)
+
+  command-sized : (i : ℕ) → i < commandCount z → SizedCommand (problemAt z s) (commandAt z s i)
+  unfolding InWord problemAt commandAt
+  command-sized i h = record {
+    lower-word = lower-word z s o (p .words) i;
+    upper-word = upper-word z s o (p .words) i;
+    row-words = tab-all1 (entryAt z s i) (commandCount z) (λ j l. entry-word i j h l);
+    gains-words = at-all1 (wordsAt (gainRow z s i) 0 (z .nx)) (pos 0) (λ j l. gain j (rw (length-words-at (gainRow z s i) 0 (z .nx)) at l));
+    row-length = row-length z s i ∙ sym (commands-length z s);
+    gains-length = gains-length z s i ∙ sym (bounds-length z s);
+  }
+    where
+      gain : (j : ℕ) → j < z .nx → natAbs (getD (wordsAt (gainRow z s i) 0 (z .nx)) j (pos 0)) ≤ top (z .w)
+      gain j l = rw (getD-words-at (gainRow z s i) 0 (z .nx) j l, zero-add (4 * j)) (gain-word z s o (p .words) i j h l)
+
+  problem-sized : Sized (problemAt z s)
+  unfolding F problemAt
+  problem-sized = record {
+    commands-most = rw (commands-length z s) (o .n-high);
+    inputs-most = rw (bounds-length z s) (o .nx-high);
+    b-least = o .b-low;
+    b-most = o .b-high;
+    W-least = o .b-word;
+    W-most = o .w-high;
+    momentum-most = momentum-most;
+    bounds-words = at-all1 (problemAt z s .inputBounds) 0 (λ j l. bound j (rw (bounds-length z s) at l));
+    commands-sized = tab-all1 (commandAt z s) (commandCount z) (λ i h. command-sized i h);
+  }
+    where
+      bound : (j : ℕ) → j < z .nx → getD (problemAt z s .inputBounds) j 0 ≤ top (z .w)
+      bound j l = rw (input-bound-at z s j l) (bound-word z s o (p .words) j l)
+
+  problem-ordered : ordered (problemAt z s) ≡ true
+  unfolding commandAt
+  problem-ordered = at-ordered (problemAt z s) (commandAt z s 0) (λ i h. order i (rw (commands-length z s) at h))
+    where
+      order : (i : ℕ) → i < commandCount z → getD (problemAt z s .commands) i (commandAt z s 0) .lower ≤ℤ getD (problemAt z s .commands) i (commandAt z s 0) .upper
+      order i h = rw (command-at z s (commandAt z s 0) i h) (leZ-yes (of-true (all-at (orderTest z s) (commandCount z) i h (p .orders))))
+
+  problem-headroom : headroom (problemAt z s) ≡ true
+  problem-headroom = at-headroom (problemAt z s) (commandAt z s 0) (λ i h. fits i (rw (commands-length z s) at h))
+    where
+      fits : (i : ℕ) → i < commandCount z → RangesFit (problemAt z s) (getD (problemAt z s .commands) i (commandAt z s 0))
+      fits i h = rw (command-at z s (commandAt z s 0) i h) (ranges z s i (all-at (pointTest z s) (commandCount z) i h (p .points)) (all-at (rowTest z s) (commandCount z) i h (p .rows)))
+
+pub accepted : (s : List ℕ) → imageNumber s ≡ 0 → Accepted s
+unfolding imageNumber problemOf
+accepted s e =
+    let a = none (headNumber s) _ e in
+    let b = none (bodyNumber (sizesOf s) s) (tablesNumber (sizesOf s) s) (a .1) in
+    let w = head-whole s (a .0) in
+    let p = tests-passed (sizesOf s) s (b .0) (b .1) in
+    record {
+      whole = w;
+      sized = problem-sized (sizesOf s) s (w .sizes) p;
+      order = of-true (problem-ordered (sizesOf s) s (w .sizes) p);
+      room = of-true (problem-headroom (sizesOf s) s (w .sizes) p);
+    }
+
+-- the sizes read from an image that passed
+pub whole-of : {z : Sizes} {s : List ℕ} → z ≡ sizesOf s → Whole (sizesOf s) s → Whole z s
+whole-of {z} {s} e h = subst (λ (y : Sizes). Whole y s) (sym e) h

@@ -1,0 +1,5 @@
+-- The laws that other crates cite.
+pub mod Accept
+pub mod Demand
+pub mod Guaranteed
+pub mod Prefix

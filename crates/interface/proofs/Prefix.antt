@@ -1,0 +1,302 @@
+-- The same image with k as its sweeps: accepted too, and what a solve answers on it are the commands and bounds after k sweeps. Assumes nothing.
+use mathlib.Core.Path.{_≡_, refl, sym, ap, subst, _∙_}
+use mathlib.Core.Bool.{Bool, true, cond, _&&_}
+use mathlib.Core.List.{List, _++_, map, append-assoc}
+use Prim.Native.Nat.{ℕ, zero, suc, _+_, _-_, _*_, _%_, _^_, _≤_, _<_}
+use native.Mathlib.Omega.{arith}
+use native.Mathlib.Nat.{zero-add}
+use lib.Dec.{eqb, leb, lit<}
+use borrow.Author.Tests.{le-leb}
+use lib.IntN.{ℤ, pos, natAbs}
+use lib.ListN.{length, take, drop, length-append}
+use lib.Signed.{leZ}
+use lib.Seq.{drop-drop, take-at, drop-at, length-take-le, ext-getD}
+use Rattle.word.specs.Word.{natAt, wordAt, wordsAt, wordsOut, bytesOf}
+use Rattle.word.specs.Buffer.{putAt}
+use Rattle.word.specs.Format.{isFormat, inWord}
+use Rattle.word.proofs.Words.{nat-part, nat-drop, nat-back, word-drop, length-bytes, length-words-at, getD-words-at}
+use Rattle.word.proofs.Buffer.{length-put, part-put}
+use Rattle.gradient.specs.Index.{tab, allTo}
+use Rattle.gradient.specs.Problem.{Command, Problem, F, withIterations}
+use Rattle.gradient.specs.Scheme.{Iterate, iterate}
+use Rattle.gradient.specs.Bounds.{rangeP, rangeY, rangeA, rangeB, Error, errorAfter}
+use Rattle.gradient.proofs.Prefix.{iterate-prefix, error-prefix, inputs-prefix, start-prefix}
+use Rattle.gradient.proofs.Index.{tab-cong, sumN-cong}
+use Rattle.image.specs.declared.Sizes.{Sizes}
+use Rattle.image.specs.Order.{orElse}
+use Rattle.image.specs.Sizes.{between, sound, commandCount, bodyCount}
+use Rattle.interface.specs.Calls.{inputsOf, startOf, callNumber, solveNumber, solveAnswer, answerAfter, commandsAfter, boundsAfter}
+use Rattle.image.specs.Layout.{sizesOf, problemOf, costAt, costRow, gainRow, lowerAt, upperAt, momentumAt, boundAt, entryOf, commandAt, problemAt, lowerPlace, upperPlace, momentumPlace, boundPlace, costOffset, gainOffset}
+use Rattle.interface.specs.Demand.{withSweeps, Prefix}
+use Rattle.image.specs.Checks.{headNumber, wordTest, boundTest, bodyNumber}
+use Rattle.interface.specs.Tables.{orderTest, symmetryTest, marginTest, totalTest, momentumRange, momentumRatio, pointTest, rowTest, othersAt, marginAt, totalAt, leastTo, largestTo, leastMargin, largestTotal, eqZ, tablesNumber, imageNumber}
+use Rattle.image.proofs.Ordering.{passed, both, none}
+use Rattle.interface.proofs.Accept.{accepted}
+
+all-cong : (p q : ℕ → Bool) (n : ℕ) → ((i : ℕ) → p i ≡ q i) → allTo p n ≡ allTo q n
+all-cong p q zero h = refl
+all-cong p q (suc n) h = rw (all-cong p q n h, h n)
+
+least-cong : (f g : ℕ → ℤ) (n : ℕ) → ((i : ℕ) → f i ≡ g i) → leastTo f n ≡ leastTo g n
+least-cong f g zero h = h 0
+least-cong f g (suc n) h = rw (least-cong f g n h, h (suc n))
+
+largest-cong : (f g : ℕ → ℤ) (n : ℕ) → ((i : ℕ) → f i ≡ g i) → largestTo f n ≡ largestTo g n
+largest-cong f g zero h = h 0
+largest-cong f g (suc n) h = rw (largest-cong f g n h, h (suc n))
+
+-- ---- two images that agree from word 8 on
+module _ (z : Sizes) (s t : List ℕ) (e : drop 32 s ≡ drop 32 t) where
+  drop-same : (at : ℕ) → 32 ≤ at → drop at s ≡ drop at t
+  drop-same at h =
+      let q : at ≡ 32 + (at - 32) = omega arith in
+      rw q (sym (drop-drop (at - 32) 32 s) ∙ ap (drop (at - 32)) e ∙ drop-drop (at - 32) 32 t)
+
+  word-same : (at : ℕ) → 32 ≤ at → wordAt s at ≡ wordAt t at
+  word-same at h =
+      let q : at ≡ 32 + (at - 32) = omega arith in
+      rw q (sym (word-drop s 32 (at - 32)) ∙ ap (λ (l : List ℕ). wordAt l (at - 32)) e ∙ word-drop t 32 (at - 32))
+
+  cost-row-same : (i : ℕ) → costRow z s i ≡ costRow z t i
+  cost-row-same i = drop-same (costOffset z i) (omega arith)
+
+  gain-row-same : (i : ℕ) → gainRow z s i ≡ gainRow z t i
+  gain-row-same i = drop-same (gainOffset z i) (omega arith)
+
+  cost-same : (i j : ℕ) → costAt z s i j ≡ costAt z t i j
+  cost-same i j = ap (λ (l : List ℕ). wordAt l (4 * j)) (cost-row-same i)
+
+  lower-same : (k : ℕ) → lowerAt z s k ≡ lowerAt z t k
+  unfolding lowerAt
+  lower-same k = word-same (lowerPlace z + 4 * (k % z .nu)) (omega arith)
+
+  upper-same : (k : ℕ) → upperAt z s k ≡ upperAt z t k
+  unfolding upperAt
+  upper-same k = word-same (upperPlace z + 4 * (k % z .nu)) (omega arith)
+
+  momentum-same : momentumAt z s ≡ momentumAt z t
+  unfolding momentumAt
+  momentum-same = word-same (momentumPlace z) (omega arith)
+
+  bound-same : (j : ℕ) → boundAt z s j ≡ boundAt z t j
+  unfolding boundAt
+  bound-same j = word-same (boundPlace z + 4 * j) (omega arith)
+
+  bounds-same : wordsAt s (boundPlace z) (z .nx) ≡ wordsAt t (boundPlace z) (z .nx)
+  bounds-same = words-same (z .nx) (boundPlace z) (omega arith)
+    where
+      words-same : (n at : ℕ) → 32 ≤ at → wordsAt s at n ≡ wordsAt t at n
+      words-same n at h = ext-getD (pos 0) (wordsAt s at n) (wordsAt t at n) (length-words-at s at n ∙ sym (length-words-at t at n)) (λ i l. let k : i < n = rw (length-words-at s at n) at l in getD-words-at s at n i k ∙ word-same (at + 4 * i) (omega arith) ∙ sym (getD-words-at t at n i k))
+
+  command-same : (k : ℕ) → commandAt z s k ≡ commandAt z t k
+  unfolding commandAt
+  command-same k =
+      ap (λ (l : ℤ). made l (upperAt z s k) (costRow z s k) (gainRow z s k)) (lower-same k)
+      ∙ ap (λ (u : ℤ). made (lowerAt z t k) u (costRow z s k) (gainRow z s k)) (upper-same k)
+      ∙ ap (λ (c : List ℕ). made (lowerAt z t k) (upperAt z t k) c (gainRow z s k)) (cost-row-same k)
+      ∙ ap (made (lowerAt z t k) (upperAt z t k) (costRow z t k)) (gain-row-same k)
+    where
+      made : ℤ → ℤ → List ℕ → List ℕ → Command
+      made l u c g = record { lower = l; upper = u; row = tab (entryOf (z .b) c k) (commandCount z); gains = wordsAt g 0 (z .nx) }
+
+  pub problem-same : problemAt z s ≡ problemAt z t
+  unfolding problemAt
+  problem-same = rw (momentum-same, bounds-same, tab-cong (commandAt z s) (commandAt z t) (commandCount z) (λ i h. command-same i))
+
+  others-same : (i : ℕ) → othersAt z s i ≡ othersAt z t i
+  unfolding othersAt
+  others-same i = sumN-cong (λ (j : ℕ). cond (eqb i j) 0 (natAbs (costAt z s i j))) (λ (j : ℕ). cond (eqb i j) 0 (natAbs (costAt z t i j))) (commandCount z) (λ j h. rw (cost-same i j))
+
+  margin-same : (i : ℕ) → marginAt z s i ≡ marginAt z t i
+  unfolding marginAt
+  margin-same i = rw (cost-same i i, others-same i)
+
+  total-same : (i : ℕ) → totalAt z s i ≡ totalAt z t i
+  unfolding totalAt
+  total-same i = rw (cost-same i i, others-same i)
+
+  symmetry-same : (i : ℕ) → symmetryTest z s i ≡ symmetryTest z t i
+  unfolding symmetryTest
+  symmetry-same i = all-cong (λ (j : ℕ). eqZ (costAt z s i j) (costAt z s j i)) (λ (j : ℕ). eqZ (costAt z t i j) (costAt z t j i)) (commandCount z) (λ j. rw (cost-same i j, cost-same j i))
+
+  range-same : momentumRange z s ≡ momentumRange z t
+  unfolding momentumRange
+  range-same = rw momentum-same
+
+  ratio-same : momentumRatio z s ≡ momentumRatio z t
+  unfolding momentumRatio leastMargin largestTotal
+  ratio-same =
+      rw (
+        momentum-same,
+        least-cong (marginAt z s) (marginAt z t) (commandCount z - 1) margin-same,
+        largest-cong (totalAt z s) (totalAt z t) (commandCount z - 1) total-same,
+      )
+
+  point-same : (i : ℕ) → pointTest z s i ≡ pointTest z t i
+  unfolding pointTest
+  point-same i = rw (problem-same, command-same i)
+
+  row-same : (i : ℕ) → rowTest z s i ≡ rowTest z t i
+  unfolding rowTest
+  row-same i = rw (problem-same, command-same i)
+
+  pub body-number-same : bodyNumber z s ≡ bodyNumber z t
+  unfolding bodyNumber
+  body-number-same =
+      rw (
+        all-cong (wordTest z s) (wordTest z t) (bodyCount z) (λ i. ap (inWord (z .w)) (word-same (4 * (8 + i)) (omega arith))),
+        all-cong (boundTest z s) (boundTest z t) (z .nx) (λ j. ap (leZ (pos 0)) (bound-same j)),
+      )
+
+  pub tables-number-same : tablesNumber z s ≡ tablesNumber z t
+  unfolding tablesNumber
+  tables-number-same =
+      let n = commandCount z in
+      rw (
+        all-cong (orderTest z s) (orderTest z t) n (λ i. rw (lower-same i, upper-same i)),
+        all-cong (symmetryTest z s) (symmetryTest z t) n symmetry-same,
+        all-cong (marginTest z s) (marginTest z t) n (λ i. ap (leZ (pos 1)) (margin-same i)),
+        all-cong (totalTest z s) (totalTest z t) n (λ i. ap (λ (x : ℤ). leZ x (pos (2 ^ z .b))) (total-same i)),
+        range-same,
+        ratio-same,
+        all-cong (pointTest z s) (pointTest z t) n point-same,
+        all-cong (rowTest z s) (rowTest z t) n row-same,
+      )
+
+-- ---- the image with other sweeps
+resized : ℕ → Sizes → Sizes
+resized k z = record { nu = z .nu; steps = z .steps; nx = z .nx; b = z .b; w = z .w; sweeps = k }
+
+sound-resized : (k : ℕ) (z : Sizes) → 1 ≤ k → k ≤ 400 → sound z ≡ true → sound (resized k z) ≡ true
+unfolding sound resized
+sound-resized k z h l e =
+    let p = both (between 1 4 (z .nu) && between 1 16 (z .steps) && leb (commandCount z) 16 && between 1 12 (z .nx) && isFormat (z .b) (z .w)) (between 1 400 (z .sweeps)) e in
+    rw (p .0, le-leb 1 k h, le-leb k 400 l)
+
+-- nothing but the problem's iterations reads the sweeps
+iterations-only : (k : ℕ) (z : Sizes) (s : List ℕ) → problemAt (resized k z) s ≡ withIterations k (problemAt z s)
+unfolding resized problemAt commandAt lowerAt upperAt momentumAt withIterations
+iterations-only k z s = refl
+
+body-sweeps : (k : ℕ) (z : Sizes) (s : List ℕ) → bodyNumber (resized k z) s ≡ bodyNumber z s
+unfolding resized bodyNumber boundAt
+body-sweeps k z s = refl
+
+tables-sweeps : (k : ℕ) (z : Sizes) (s : List ℕ) → tablesNumber (resized k z) s ≡ tablesNumber z s
+unfolding resized tablesNumber lowerAt upperAt momentumAt symmetryTest othersAt marginAt totalAt leastMargin largestTotal momentumRange momentumRatio pointTest rowTest problemAt commandAt F rangeP rangeY rangeA rangeB
+tables-sweeps k z s = refl
+
+inputs-kept : (k : ℕ) (z : Sizes) (state : List ℕ) → inputsOf (resized k z) state ≡ inputsOf z state
+unfolding resized inputsOf
+inputs-kept k z state = refl
+
+start-kept : (k : ℕ) (z : Sizes) (start : List ℕ) → startOf (resized k z) start ≡ startOf z start
+unfolding resized startOf
+start-kept k z start = refl
+
+none-of : (a b : ℕ) → a ≡ 0 → b ≡ 0 → orElse a b ≡ 0
+none-of a b p q = rw p q
+
+module _ (s : List ℕ) (k : ℕ) (long : 32 ≤ length s) (few : k ≤ 400) where
+  kept-length : length (withSweeps k s) ≡ length s
+  unfolding withSweeps
+  kept-length = length-put s 20 (bytesOf k) (rw (length-bytes 4 k) (omega arith))
+
+  front : take 20 (withSweeps k s) ≡ take 20 s
+  unfolding withSweeps putAt
+  front =
+      rw (append-assoc (take 20 s) (bytesOf k) (drop (20 + length (bytesOf k)) s))
+      (take-at (take 20 s) (bytesOf k ++ drop (20 + length (bytesOf k)) s) 20 (length-take-le 20 s (omega arith)))
+
+  behind : drop 24 (withSweeps k s) ≡ drop 24 s
+  unfolding withSweeps putAt
+  behind =
+      rw (length-bytes 4 k)
+      (drop-at (take 20 s ++ bytesOf k) (drop 24 s) 24 (omega (arith, length-append (take 20 s) (bytesOf k), length-take-le 20 s (omega arith), length-bytes 4 k)))
+
+  -- the words before word 5, word 5, and the words after it
+  nat-front : (at : ℕ) → at + 4 ≤ 20 → natAt (withSweeps k s) at ≡ natAt s at
+  nat-front at h =
+      let p = nat-part 4 (withSweeps k s) 0 20 at h in
+      let q = nat-part 4 s 0 20 at h in
+      let z = zero-add at in
+      ap (natAt (withSweeps k s)) (sym z) ∙ sym p ∙ ap (λ (l : List ℕ). natAt l at) front ∙ q ∙ ap (natAt s) z
+
+  nat-sweeps : natAt (withSweeps k s) 20 ≡ k
+  nat-sweeps = nat-back 4 k (omega arith) (withSweeps k s) 20 part
+    where
+      part : take 4 (drop 20 (withSweeps k s)) ≡ bytesOf k
+      part = subst (λ (n : ℕ). take n (drop 20 (withSweeps k s)) ≡ bytesOf k) (length-bytes 4 k) (unfold withSweeps in part-put s 20 (bytesOf k) (rw (length-bytes 4 k) (omega arith)))
+
+  nat-behind : (at : ℕ) → natAt (withSweeps k s) (24 + at) ≡ natAt s (24 + at)
+  nat-behind at = sym (nat-drop 4 (withSweeps k s) 24 at) ∙ ap (λ (l : List ℕ). natAt l at) behind ∙ nat-drop 4 s 24 at
+
+  body-kept : drop 32 (withSweeps k s) ≡ drop 32 s
+  body-kept = sym (drop-drop 8 24 (withSweeps k s)) ∙ ap (drop 8) behind ∙ drop-drop 8 24 s
+
+  sizes-resized : sizesOf (withSweeps k s) ≡ resized k (sizesOf s)
+  unfolding sizesOf resized
+  sizes-resized =
+      rw (nat-front 0 (omega arith), nat-front 4 (omega arith), nat-front 8 (omega arith), nat-front 12 (omega arith), nat-front 16 (omega arith), nat-sweeps)
+
+  problem-resized : problemOf (withSweeps k s) ≡ withIterations k (problemOf s)
+  unfolding problemOf
+  problem-resized =
+      ap (λ (z : Sizes). problemAt z (withSweeps k s)) sizes-resized
+      ∙ problem-same (resized k (sizesOf s)) (withSweeps k s) s body-kept
+      ∙ iterations-only k (sizesOf s) s
+
+  head-kept : 1 ≤ k → headNumber s ≡ 0 → headNumber (withSweeps k s) ≡ 0
+  unfolding headNumber resized
+  head-kept one e =
+      let p₁ = passed (leb 32 (length s)) 6 _ (lit< tt) e in
+      let p₂ = passed (sound (sizesOf s)) 3 _ (lit< tt) (p₁ .1) in
+      let p₃ = passed (eqb (natAt s 24) 0) 3 _ (lit< tt) (p₂ .1) in
+      let p₄ = passed (eqb (natAt s 28) 0) 3 _ (lit< tt) (p₃ .1) in
+      let p₅ = passed (eqb (length s) (4 * (8 + bodyCount (sizesOf s)))) 6 _ (lit< tt) (p₄ .1) in
+      rw (kept-length, p₁ .0, sizes-resized, sound-resized k (sizesOf s) one few (p₂ .0), nat-behind 0, p₃ .0, nat-behind 4, p₄ .0, p₅ .0)
+
+  body-number-kept : bodyNumber (sizesOf (withSweeps k s)) (withSweeps k s) ≡ bodyNumber (sizesOf s) s
+  body-number-kept =
+      ap (λ (z : Sizes). bodyNumber z (withSweeps k s)) sizes-resized
+      ∙ body-number-same (resized k (sizesOf s)) (withSweeps k s) s body-kept
+      ∙ body-sweeps k (sizesOf s) s
+
+  tables-number-kept : tablesNumber (sizesOf (withSweeps k s)) (withSweeps k s) ≡ tablesNumber (sizesOf s) s
+  tables-number-kept =
+      ap (λ (z : Sizes). tablesNumber z (withSweeps k s)) sizes-resized
+      ∙ tables-number-same (resized k (sizesOf s)) (withSweeps k s) s body-kept
+      ∙ tables-sweeps k (sizesOf s) s
+
+  number-kept : 1 ≤ k → imageNumber s ≡ 0 → imageNumber (withSweeps k s) ≡ 0
+  unfolding imageNumber
+  number-kept one e =
+      let a = none (headNumber s) _ e in
+      let b = none (bodyNumber (sizesOf s) s) (tablesNumber (sizesOf s) s) (a .1) in
+      none-of (headNumber (withSweeps k s)) _ (head-kept one (a .0))
+      (none-of (bodyNumber (sizesOf (withSweeps k s)) (withSweeps k s)) (tablesNumber (sizesOf (withSweeps k s)) (withSweeps k s)) (body-number-kept ∙ b .0) (tables-number-kept ∙ b .1))
+
+  call-kept : (state start : List ℕ) (room : ℕ) → callNumber (withSweeps k s) state start room ≡ callNumber s state start room
+  unfolding callNumber resized
+  call-kept state start room =
+      rw (sizes-resized, problem-resized, inputs-kept k (sizesOf s) state, start-kept k (sizesOf s) start, inputs-prefix (problemOf s) k (inputsOf (sizesOf s) state), start-prefix (problemOf s) k (startOf (sizesOf s) start))
+
+  answer-kept : (state start : List ℕ) → solveAnswer (withSweeps k s) state start ≡ answerAfter s state start k
+  unfolding solveAnswer commandsAfter boundsAfter resized inputsOf startOf
+  answer-kept state start =
+      ap (λ (z : Sizes). out (problemOf (withSweeps k s)) z (z .sweeps)) sizes-resized
+      ∙ ap (λ (p : Problem). out p (resized k (sizesOf s)) k) problem-resized
+      ∙ ap (λ (x : Iterate). wordsOut (x .z) ++ wordsOut (map pos (errorAfter (withIterations k (problemOf s)) k .e))) (iterate-prefix (problemOf s) k (inputsOf (sizesOf s) state) (startOf (sizesOf s) start) k)
+      ∙ ap (λ (x : Error). wordsOut (commandsAfter s state start k) ++ wordsOut (map pos (x .e))) (error-prefix (problemOf s) k k)
+    where
+      out : Problem → Sizes → ℕ → List ℕ
+      out p z j = wordsOut (iterate p (inputsOf z state) (startOf z start) j .z) ++ wordsOut (map pos (errorAfter p j .e))
+
+-- the law, for every number of sweeps that an image may have
+pub prefix : (image state start : List ℕ) (room k : ℕ) → imageNumber image ≡ 0 → 1 ≤ k → k ≤ 400 → Prefix image state start room k
+unfolding solveNumber
+prefix image state start room k e one few =
+    let w = accepted image e .whole in
+    let long : 32 ≤ length image = omega (arith, w .size) in
+    let n = number-kept image k long few one e in
+    record { accepted = n; number = rw (n, e) (call-kept image k long few state start room); answer = answer-kept image k long few state start }

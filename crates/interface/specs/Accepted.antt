@@ -1,0 +1,26 @@
+-- What acceptance says, as facts that the code of a solve requires. Assumes nothing.
+use mathlib.Core.List.{List}
+use mathlib.Core.Path.{_≡_}
+use Prim.Native.Nat.{ℕ, _*_}
+use lib.Dec.{T}
+use lib.ListN.{length}
+use Rattle.gradient.specs.Sizes.{Sized}
+use Rattle.gradient.specs.Demand.{ordered, headroom, inputsWithin, startWithin}
+use Rattle.image.specs.Sizes.{Whole, commandCount}
+use Rattle.image.specs.Layout.{sizesOf, problemOf}
+use Rattle.interface.specs.Calls.{inputsOf, startOf}
+
+-- "an image is accepted when none of the checks on the image and its tables refuses it": what that gives
+pub record Accepted (image : List ℕ) : Type 0 where
+  pub whole : Whole (sizesOf image) image
+  pub sized : Sized (problemOf image)
+  pub order : T (ordered (problemOf image))
+  pub room : T (headroom (problemOf image))
+
+-- 13 and 14 passed too
+pub record Solvable (image state start : List ℕ) : Type 0 where
+  pub accepted : Accepted image
+  pub state-size : length state ≡ 4 * sizesOf image .nx
+  pub inputs : T (inputsWithin (problemOf image) (inputsOf (sizesOf image) state))
+  pub start-size : length start ≡ 4 * commandCount (sizesOf image)
+  pub starts : T (startWithin (problemOf image) (startOf (sizesOf image) start))

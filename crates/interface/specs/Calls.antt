@@ -1,0 +1,68 @@
+-- The calls on an image: the number of each for every input, and the bytes that it answers. Assumes nothing.
+use Prim.Native.Nat.{ℕ, _*_}
+use mathlib.Core.List.{List, [], _∷_, _++_, map}
+use lib.Dec.{eqb}
+use lib.ListN.{length}
+use lib.IntN.{ℤ, pos}
+use Rattle.word.specs.Word.{wordsAt, wordsOut}
+use Rattle.gradient.specs.Problem.{coldStart}
+use Rattle.gradient.specs.Scheme.{iterate}
+use Rattle.gradient.specs.Bounds.{errorAfter}
+use Rattle.gradient.specs.Demand.{inputsWithin, startWithin}
+use Rattle.image.specs.declared.Sizes.{Sizes}
+use Rattle.image.specs.Order.{check, firstFault, orElse}
+use Rattle.image.specs.Sizes.{commandCount}
+use Rattle.image.specs.Layout.{sizesOf, problemOf}
+use Rattle.interface.specs.Tables.{imageNumber}
+
+-- "state and start are big-endian words as in the image"
+unfoldable pub inputsOf : Sizes → List ℕ → List ℤ
+inputsOf z state = wordsAt state 0 (z .nx)
+
+unfoldable pub startOf : Sizes → List ℕ → List ℤ
+startOf z start = wordsAt start 0 (commandCount z)
+
+-- ---- a cold start
+abbrev pub coldCallNumber : Sizes → ℕ → ℕ
+coldCallNumber z room = firstFault (check 15 (eqb room (4 * commandCount z)) ∷ [])
+
+-- "a cold start likewise without 13 and 14"
+unfoldable pub coldNumber : List ℕ → ℕ → ℕ
+coldNumber image room = orElse (imageNumber image) (coldCallNumber (sizesOf image) room)
+
+-- "the cold start, 4n bytes"
+unfoldable pub coldAnswer : List ℕ → List ℕ
+coldAnswer image = wordsOut (coldStart (problemOf image))
+
+-- ---- a solve
+-- 13, 14, 15
+unfoldable pub callNumber : List ℕ → List ℕ → List ℕ → ℕ → ℕ
+callNumber image state start room =
+    let z = sizesOf image in
+    let p = problemOf image in
+    firstFault
+    (check 13 (eqb (length state) (4 * z .nx))
+    ∷ check 13 (inputsWithin p (inputsOf z state))
+    ∷ check 14 (eqb (length start) (4 * commandCount z))
+    ∷ check 14 (startWithin p (startOf z start))
+    ∷ check 15 (eqb room (8 * commandCount z))
+    ∷ [])
+
+-- "a solve is tested 6, 3, 6, 5, then 7 to 15"
+unfoldable pub solveNumber : List ℕ → List ℕ → List ℕ → ℕ → ℕ
+solveNumber image state start room = orElse (imageNumber image) (callNumber image state start room)
+
+-- the commands and the bounds after k sweeps
+unfoldable pub commandsAfter : List ℕ → List ℕ → List ℕ → ℕ → List ℤ
+commandsAfter image state start k = iterate (problemOf image) (inputsOf (sizesOf image) state) (startOf (sizesOf image) start) k .z
+
+unfoldable pub boundsAfter : List ℕ → ℕ → List ℕ
+boundsAfter image k = errorAfter (problemOf image) k .e
+
+-- the answer of k sweeps: "8n bytes: n commands, then n bounds as unsigned 32-bit words, big-endian too"
+abbrev pub answerAfter : List ℕ → List ℕ → List ℕ → ℕ → List ℕ
+answerAfter image state start k = wordsOut (commandsAfter image state start k) ++ wordsOut (map pos (boundsAfter image k))
+
+-- "the answer" of a solve: after the image's own sweeps
+unfoldable pub solveAnswer : List ℕ → List ℕ → List ℕ → List ℕ
+solveAnswer image state start = answerAfter image state start (sizesOf image .sweeps)

@@ -1,0 +1,5 @@
+-- The calls on an image as definitions: their numbers, their answers, and demand 3 on bytes.
+pub mod Tables
+pub mod Calls
+pub mod Accepted
+pub mod Demand
