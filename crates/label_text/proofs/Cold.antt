@@ -25,7 +25,7 @@ use Rattle.interface.specs.Accepted.{Accepted}
 use Rattle.interface.specs.Calls.{inputsOf, startOf, coldAnswer, callNumber, solveNumber}
 use Rattle.interface.proofs.Accept.{accepted, commands-length}
 use Rattle.solve.proofs.Answers.{cold-fit}
-use Rattle.text.specs.Text.{isState, stateWords}
+use Rattle.state_file.specs.StateFile.{isState, stateWords}
 use Rattle.label_text.specs.Label.{stateNumber}
 
 module _ (image : List ℕ) (ok : Accepted image) where

@@ -10,7 +10,8 @@ use Rattle.image.specs.Layout.{sizesOf}
 use Rattle.interface.specs.Tables.{imageNumber}
 use Rattle.interface.specs.Calls.{coldNumber, coldAnswer, solveNumber, solveAnswer}
 use Rattle.intake.specs.Intake.{intakeImage, intakeNumber}
-use Rattle.text.specs.Text.{isState, lines, refusal, stateWords}
+use Rattle.state_file.specs.StateFile.{isState, stateWords}
+use Rattle.text.specs.Text.{lines, refusal}
 use Rattle.label_text.specs.Label.{imageText, labelText, stateNumber}
 
 -- an accepted image refuses no buffer of its cold start's length

@@ -8,7 +8,8 @@ use Rattle.image.specs.Sizes.{commandCount}
 use Rattle.image.specs.Layout.{sizesOf}
 use Rattle.interface.specs.Calls.{coldAnswer, solveNumber, solveAnswer}
 use Rattle.intake.specs.Intake.{intakeImage, intakeNumber}
-use Rattle.text.specs.Text.{isState, lines, printed, stateWords}
+use Rattle.state_file.specs.StateFile.{isState, stateWords}
+use Rattle.text.specs.Text.{lines, printed}
 use Rattle.label_text.specs.declared.Drive.{Drive}
 
 -- the number once an image stands: "anything else is 13", then that of a solve, which "takes the cold start"

@@ -37,7 +37,7 @@ fn cold_start(image: &[u8], n: usize) -> [u8; 64]
     requires { ⌜ (imageNumber (now image) ≡ 0) × ((n ≡ commandCount (sizesOf (now image))) × (n ≤ 16)) ⌝ }
     ensures { λ r. ⌜ (length r ≡ 64) × (take (4 * n) r ≡ coldAnswer (now (image .entry))) ⌝ }
 {
-    let mut start = text::blank_words();
+    let mut start = state_file::blank_words();
     gantry::gantry_cold_start(image, &mut start[..4 * n]);
     start
 }
@@ -49,11 +49,11 @@ fn image_text(image: &[u8], state: &[u8]) -> Text
 {
     let z = image::sizes_of(image);
     let nx = z.nx;
-    if !text::is_state(state, nx) {
+    if !state_file::is_state(state, nx) {
         return text::refusal_of(13);
     }
     let n = z.nu * z.steps;
-    let x = text::state_words(state, nx);
+    let x = state_file::state_words(state, nx);
     let start = cold_start(image, n);
     let mut answer = text::blank_text();
     let number = gantry::gantry_solve(image, &x[..4 * nx], &start[..4 * n], &mut answer[..8 * n]);

@@ -1,18 +1,14 @@
--- A line written to a buffer, and the form of a state file. Assumes nothing.
+-- A line written to a buffer. Assumes nothing.
 use mathlib.Core.Path.{_≡_, ap, _∙_}
 use mathlib.Core.List.{List, [], _∷_, _++_}
-use Prim.Native.Nat.{ℕ, _+_, _≤_, _*_}
+use Prim.Native.Nat.{ℕ, _+_, _≤_}
 use native.Mathlib.Omega.{arith}
 use lib.ListN.{length, set, length-append}
-use mathlib.Core.Bool.{true, false}
-use lib.Dec.{eqb}
-use borrow.Author.Tests.{eqb-true, ne-eqb}
-use Rattle.integer.proofs.Tests.{both}
 use Rattle.word.specs.Buffer.{putAt}
 use Rattle.hex.specs.Hex.{hexDigits}
 use Rattle.word.proofs.Buffer.{put-next, set-next}
 use Rattle.hex.proofs.Hex.{length-hex}
-use Rattle.text.specs.Text.{isState, line}
+use Rattle.text.specs.Text.{line}
 
 -- ---- a line: command, space, bound, byte 10
 pub length-line : (command bound : ℕ) → length (line command bound) ≡ 18
@@ -32,12 +28,3 @@ put-line s at command bound h =
     ap (λ (o : List ℕ). set (putAt o (at + 9) b) (at + 17) 10) (set-next s at c (at + 8) 32 (omega arith) (omega arith))
     ∙ ap (λ (o : List ℕ). set o (at + 17) 10) (put-next s at (c ++ 32 ∷ []) b (at + 9) (omega (arith, length-append c (32 ∷ []))) (omega arith))
     ∙ set-next s at (c ++ 32 ∷ [] ++ b) (at + 17) 10 (omega (arith, length-append (c ++ 32 ∷ []) b, length-append c (32 ∷ []), length-hex 8 bound)) (omega arith)
-
--- ---- a state file has nx words of 8 digits, and one byte more
-pub state-length : (nx : ℕ) (file : List ℕ) → isState nx file ≡ true → length file ≡ 8 * nx + 1
-unfolding isState
-state-length nx file e = eqb-true (length file) (8 * nx + 1) (both (eqb (length file) (8 * nx + 1)) _ e .0)
-
-pub not-state : (nx : ℕ) (file : List ℕ) → (length file ≡ 8 * nx + 1 → ⊥) → isState nx file ≡ false
-unfolding isState
-not-state nx file h = rw (ne-eqb (length file) (8 * nx + 1) h)

@@ -1,33 +1,10 @@
 -- Worked examples of document 01, by computation. Assumes nothing.
 use mathlib.Core.Path.{_≡_, refl}
-use mathlib.Core.Bool.{true, false}
-use mathlib.Core.List.{List, [], _∷_}
-use Prim.Native.Nat.{ℕ}
+use mathlib.Core.List.{[], _∷_}
 use Rattle.word.specs.Digits.{numberBE, digitsBE}
-use Rattle.hex.specs.Hex.{isHex, digitOf, hexes, hexAt, digitByte, hexDigits}
-use Rattle.word.specs.Word.{natBE, bytesBE}
-use Rattle.text.specs.Text.{isState, line, lines, refusal, stateWords}
-
--- "state 0000000A"
-abbrev state : List ℕ
-state = 48 ∷ 48 ∷ 48 ∷ 48 ∷ 48 ∷ 48 ∷ 48 ∷ 65 ∷ 10 ∷ []
-
-one : isState 1 state ≡ true
-unfolding isState hexes isHex
-one = refl
-
-one-words : stateWords 1 state ≡ 0 ∷ 0 ∷ 0 ∷ 10 ∷ []
-unfolding stateWords bytesBE digitsBE hexAt numberBE digitOf isHex
-one-words = refl
-
--- of another count, and without its byte 10
-two : isState 2 state ≡ false
-unfolding isState
-two = refl
-
-cut : isState 1 (48 ∷ 48 ∷ 48 ∷ 48 ∷ 48 ∷ 48 ∷ 48 ∷ 65 ∷ []) ≡ false
-unfolding isState
-cut = refl
+use Rattle.hex.specs.Hex.{digitByte, hexDigits}
+use Rattle.word.specs.Word.{natBE}
+use Rattle.text.specs.Text.{line, lines, refusal}
 
 -- "prints the single line FFFFFFEE 00000003"
 sample : lines 1 (0xFF ∷ 0xFF ∷ 0xFF ∷ 0xEE ∷ 0 ∷ 0 ∷ 0 ∷ 3 ∷ []) 1

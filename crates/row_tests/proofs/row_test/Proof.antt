@@ -1,6 +1,6 @@
 -- `row_tests::row_test` meets its contract. Assumes nothing.
 use Rattle.integer.proofs.Machine.{back}
-use Rattle.row_tests.specs.Tests.{testAt}
+use Rattle.row_tests.specs.Tests.{testAt, TestRoom}
 use borrow.Author.Needs.{needs}
 use Rattle.row_tests.proofs.row_test.Statement.{statement}
 use Rattle.row_tests.proofs.row_test.Tie as tie
@@ -45,9 +45,11 @@ enum-told-6 : tie.Need-enum-told-6
 enum-told-6 c = search needs
 
 row-passes-requires : tie.Need-row-passes-requires
+unfolding TestRoom
 row-passes-requires c κs =
     let a = c .before .before .before in
-    (rw (c .enum-told6 .given .1) at (a .pre .0), a .pre .1)
+    let r = rw (c .enum-told6 .given .1) at (a .pre .0) in
+    ((r .whole, r .room), a .pre .1)
 
 returns : tie.Need-returns
 unfolding testAt

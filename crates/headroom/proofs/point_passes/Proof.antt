@@ -1,4 +1,4 @@
--- `row_tests::point_passes` meets its contract. Assumes nothing.
+-- `headroom::point_passes` meets its contract. Assumes nothing.
 use native.Mathlib.Omega.{arith}
 use borrow.Author.Tests.{le-leb, lt-leb}
 use Rattle.word.specs.Format.{top}
@@ -6,8 +6,8 @@ use Rattle.gradient.specs.Bounds.{rangeP}
 use Rattle.image.specs.Layout.{problemAt, commandAt}
 use Rattle.interface.specs.Tables.{pointTest}
 use borrow.Author.Needs.{needs}
-use Rattle.row_tests.proofs.point_passes.Statement.{statement}
-use Rattle.row_tests.proofs.point_passes.Tie as tie
+use Rattle.headroom.proofs.point_passes.Statement.{statement}
+use Rattle.headroom.proofs.point_passes.Tie as tie
 
 top-word-requires : tie.Need-top-word-requires
 top-word-requires c κs = search needs

@@ -1,4 +1,4 @@
--- `row_tests::top_word` meets its contract. Assumes nothing.
+-- `headroom::top_word` meets its contract. Assumes nothing.
 use native.Mathlib.Omega.{arith}
 use mathlib.Core.Path.{_≡_, refl, _∙_}
 use lib.IntN.{pos}
@@ -8,8 +8,8 @@ use Rattle.integer.proofs.Machine.{back}
 use Rattle.word.specs.Format.{top}
 use Rattle.word.proofs.Format.{top-high}
 use borrow.Author.Needs.{needs}
-use Rattle.row_tests.proofs.top_word.Statement.{statement}
-use Rattle.row_tests.proofs.top_word.Tie as tie
+use Rattle.headroom.proofs.top_word.Statement.{statement}
+use Rattle.headroom.proofs.top_word.Tie as tie
 
 top-is : (c : tie.After-top-of) → toZ w64 (ofZ w64 (c .top-of .result)) ≡ pos (top (c .before .args .z .w))
 top-is c = back (c .top-of .result) (c .top-of .ok) ∙ c .top-of .ensures

@@ -1,4 +1,4 @@
--- `text::state_words` meets its contract. The invariant: the words passed stand in front. Assumes nothing.
+-- `state_file::state_words` meets its contract. The invariant: the words passed stand in front. Assumes nothing.
 use native.Mathlib.Omega.{arith}
 use native.Mathlib.Numerals.{add-one}
 use mathlib.Core.Path.{_≡_, refl, sym, ap, subst, _∙_}
@@ -9,9 +9,9 @@ use Rattle.hex.specs.Hex.{hexAt}
 use Rattle.word.specs.Word.{bytesOf}
 use Rattle.word.proofs.Words.{length-bytes}
 use Rattle.word.proofs.Buffer.{front-put}
-use Rattle.text.specs.Text.{stateWords}
-use Rattle.text.proofs.state_words.Statement.{statement}
-use Rattle.text.proofs.state_words.Tie as tie
+use Rattle.state_file.specs.StateFile.{stateWords}
+use Rattle.state_file.proofs.state_words.Statement.{statement}
+use Rattle.state_file.proofs.state_words.Tie as tie
 
 abbrev Inv-loop : tie.InvT-loop
 Inv-loop file nx r₀ i₀ r i = (i ≤ nx) × ((length r ≡ 64) × (take (4 * i) r ≡ stateWords i file))

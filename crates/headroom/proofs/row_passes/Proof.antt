@@ -1,14 +1,13 @@
--- `row_tests::row_passes` meets its contract. Assumes nothing.
+-- `headroom::row_passes` meets its contract. Assumes nothing.
 use native.Mathlib.Omega.{arith}
 use mathlib.Core.Path.{refl}
 use Rattle.interface.specs.Tables.{rowTest}
 use Rattle.row_sums.specs.Terms.{termRow, termCount, termMost, TermRoom}
-use Rattle.row_tests.specs.Tests.{TestRoom}
 use Rattle.word.proofs.Buffer.{rest-from}
 use Rattle.row_sums.proofs.Rows.{range-terms, gain-terms}
 use borrow.Author.Needs.{needs}
-use Rattle.row_tests.proofs.row_passes.Statement.{statement}
-use Rattle.row_tests.proofs.row_passes.Tie as tie
+use Rattle.headroom.proofs.row_passes.Statement.{statement}
+use Rattle.headroom.proofs.row_passes.Tie as tie
 
 mul-n : tie.Need-mul-n
 mul-n c = search needs
@@ -32,10 +31,10 @@ part-sum-terms-end : tie.Need-part-sum-terms-end
 part-sum-terms-end c = search needs
 
 sum-terms-requires : tie.Need-sum-terms-requires
-unfolding termRow termCount TermRoom TestRoom
+unfolding termRow termCount TermRoom
 sum-terms-requires c κs =
     let a = c .before .before .before .before .before .before in
-    (record { whole = a .pre .0 .whole; index = a .pre .1; part = rest-from (a .args .image .now) _ _ (c .before .before .cost-offset .ensures .0); room = a .pre .0 .room }, refl)
+    (record { whole = a .pre .0 .0; index = a .pre .1; part = rest-from (a .args .image .now) _ _ (c .before .before .cost-offset .ensures .0); room = a .pre .0 .1 }, refl)
 
 sub-sum-terms-2 : tie.Need-sub-sum-terms-2
 sub-sum-terms-2 c = search needs
@@ -50,13 +49,13 @@ sum-terms-requires-2 : tie.Need-sum-terms-requires-2
 unfolding termRow termCount TermRoom
 sum-terms-requires-2 c κs =
     let a = c .before .before .before .before .before .before .before .before in
-    (record { whole = a .pre .0 .whole; index = a .pre .1; part = rest-from (a .args .image .now) _ _ (c .before .before .before .gain-offset .ensures .0); room = tt }, refl)
+    (record { whole = a .pre .0 .0; index = a .pre .1; part = rest-from (a .args .image .now) _ _ (c .before .before .before .gain-offset .ensures .0); room = tt }, refl)
 
 add-result : tie.Need-add-result
 unfolding termMost
 add-result c =
     let a = c .before .before .before .before .before .before .before .before .before in
-    record { fits = omega (arith, c .before .before .sum-terms .ensures .1, c .sum-terms2 .ensures .1, a .pre .0 .whole .sizes .n-high, a .pre .0 .whole .sizes .nx-high) }
+    record { fits = omega (arith, c .before .before .sum-terms .ensures .1, c .sum-terms2 .ensures .1, a .pre .0 .0 .sizes .n-high, a .pre .0 .0 .sizes .nx-high) }
 
 returns : tie.Need-returns
 unfolding rowTest

@@ -1,11 +1,11 @@
--- `text::is_state` meets its contract. Assumes nothing.
+-- `state_file::is_state` meets its contract. Assumes nothing.
 use borrow.Author.Needs.{needs}
 use Prim.Native.Nat.{_+_, _*_}
 use lib.ListN.{length, getD}
 use borrow.Author.Tests.{eq-eqb, ne-eqb}
-use Rattle.text.specs.Text.{isState}
-use Rattle.text.proofs.is_state.Statement.{statement}
-use Rattle.text.proofs.is_state.Tie as tie
+use Rattle.state_file.specs.StateFile.{isState}
+use Rattle.state_file.proofs.is_state.Statement.{statement}
+use Rattle.state_file.proofs.is_state.Tie as tie
 
 mul-digits : tie.Need-mul-digits
 mul-digits c = search needs
