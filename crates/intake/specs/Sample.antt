@@ -17,7 +17,8 @@ use Rattle.interface.specs.Tables.{symmetryTest, othersAt, marginAt, totalAt, l
 use Rattle.line.specs.Line.{lineAt}
 use Rattle.frame.specs.Frame.{dueAt, headOf, total, wordOf}
 use Rattle.sheet.specs.Sample.{Sample, changed, lines, sample, text}
-use Rattle.sheet.specs.Sheet.{lineFault, lineValue, lineWord, sheetImage, sheetNumber, sheetWords}
+use Rattle.lines.specs.Lines.{lineFault, lineValue, lineWord}
+use Rattle.sheet.specs.Sheet.{sheetImage, sheetNumber, sheetWords}
 use Rattle.intake.specs.Intake.{intakeNumber}
 
 -- ---- the number of the call, for a buffer of 56 bytes and of 55

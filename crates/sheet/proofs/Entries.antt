@@ -28,10 +28,11 @@ use Rattle.frame.proofs.Sized.{differ, head-sizes, head-sound}
 use Rattle.frame.proofs.Laws.{total-is}
 use Rattle.frame.proofs.Word.{due-double, word-rounded}
 use Rattle.sheet.specs.Laws.{Rounded}
-use Rattle.sheet.specs.Sheet.{endNumber, first, lineDouble, lineFault, lineValue, lineWord, sheetImage, sheetNumber}
+use Rattle.lines.specs.Lines.{lineDouble, lineFault, lineValue, lineWord}
+use Rattle.sheet.specs.Sheet.{endNumber, first, sheetImage, sheetNumber}
 use Rattle.sheet.proofs.Answer.{Passing, passing}
 use Rattle.sheet.proofs.Image.{image-sizes, image-word}
-use Rattle.sheet.proofs.Step.{fault-none, passed-word}
+use Rattle.lines.proofs.Step.{fault-none, passed-word}
 
 -- no fault among the first n, and none after them
 first-zero : (f : ℕ → ℕ) (n e : ℕ) → first f n e ≡ 0 → ((k : ℕ) → k < n → f k ≡ 0) × (e ≡ 0)

@@ -23,7 +23,8 @@ use Rattle.image.specs.Sizes.{Sound}
 use Rattle.image.specs.declared.Sizes.{Sizes}
 use Rattle.frame.specs.Frame.{dueAt, total}
 use Rattle.frame.proofs.Word.{limit-in, word-in}
-use Rattle.sheet.specs.Sheet.{lineDouble, lineWord, linesWords, sizeWords}
+use Rattle.lines.specs.Lines.{lineDouble, lineWord, sizeWords}
+use Rattle.sheet.specs.Sheet.{linesWords}
 
 -- ---- one word
 module _ (z : Sizes) (s : List ℕ) (k : ℕ) where

@@ -26,7 +26,8 @@ use Rattle.frame.specs.declared.Due.{Due}
 use Rattle.frame.specs.Frame.{dueAt, total}
 use Rattle.frame.proofs.Sized.{head-sound, head-true}
 use Rattle.frame.proofs.Laws.{due-7, total-is}
-use Rattle.sheet.specs.Sheet.{lineWord, linesWords, sheetImage, sizeWords}
+use Rattle.lines.specs.Lines.{lineWord, sizeWords}
+use Rattle.sheet.specs.Sheet.{linesWords, sheetImage}
 use Rattle.sheet.proofs.Answer.{Passing}
 use Rattle.sheet.proofs.Fits.{line-word-in, lines-fit, state-limit}
 use Rattle.sheet.proofs.Whole.{long}

@@ -1,5 +1,4 @@
 -- The laws that other crates cite.
-pub mod Step
 pub mod Whole
 pub mod Fits
 pub mod Answer

@@ -12,7 +12,8 @@ use Rattle.double.specs.Double.{scalable, rounded, accepted}
 use Rattle.image.specs.Sizes.{sound}
 use Rattle.line.specs.Line.{lineAt}
 use Rattle.frame.specs.Frame.{dueAt, headOf, total, wordOf}
-use Rattle.sheet.specs.Sheet.{lineFault, lineValue, lineWord, sheetImage, sheetNumber, sheetWords}
+use Rattle.lines.specs.Lines.{lineFault, lineValue, lineWord}
+use Rattle.sheet.specs.Sheet.{sheetImage, sheetNumber, sheetWords}
 
 -- a text of frames, "22 hexadecimal digits .., then byte 10" each
 abbrev pub text : List ℕ → List ℕ

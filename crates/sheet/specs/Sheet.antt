@@ -4,8 +4,7 @@ use mathlib.Core.Bool.{cond}
 use mathlib.Core.List.{List, [], _∷_, _++_}
 use lib.ListN.{length}
 use lib.Dec.{leb, eqb}
-use lib.IntN.{ℤ, pos}
-use lib.Ieee.{Float}
+use lib.IntN.{ℤ}
 use Rattle.word.specs.Word.{wordsOut}
 use Rattle.gradient.specs.Index.{tab}
 use Rattle.image.specs.Order.{check, firstFault, orElse}
@@ -13,28 +12,8 @@ use Rattle.image.specs.declared.Sizes.{Sizes}
 use Rattle.line.specs.Line.{lineAt}
 use Rattle.frame.specs.declared.Head.{Head}
 use Rattle.frame.specs.declared.Head.the-variants.{Sized, Unsized}
-use Rattle.frame.specs.declared.Value.{Value}
-use Rattle.frame.specs.Frame.{headOf, total, dueAt, wordOf, convertedWord, valueOf, valueNumber, valueDouble}
-
--- ---- a line by its place
-
--- what line i after line 01 gives: lines of "22 hexadecimal digits .., then byte 10" have 23 bytes
-unfoldable pub lineValue : Sizes → List ℕ → ℕ → Value
-lineValue z s i = valueOf (dueAt z i) (lineAt s (23 * (i + 1)))
-
--- its "IEEE 754 double"
-abbrev pub lineDouble : Sizes → List ℕ → ℕ → Float
-lineDouble z s i = valueDouble (lineValue z s i)
-
--- the "fault" of line i after line 01
-unfoldable pub lineFault : Sizes → List ℕ → ℕ → ℕ
-lineFault z s i = valueNumber z (dueAt z i .kind) (lineValue z s i)
-
--- its word; a low and a high limit are rounded as a pair in the code, which is each by its kind
-unfoldable pub lineWord : Sizes → List ℕ → ℕ → ℤ
-lineWord z s i = convertedWord (wordOf z (dueAt z i .kind) (lineDouble z s i))
-
--- ---- the sheet
+use Rattle.frame.specs.Frame.{headOf, total}
+use Rattle.lines.specs.Lines.{lineFault, lineWord, sizeWords}
 
 -- "the first fault decides": the first of f 0, f 1, .. f (n - 1) that is not 0, else what comes after them
 abbrev pub first : (ℕ → ℕ) → ℕ → ℕ → ℕ
@@ -48,10 +27,6 @@ endNumber z s = firstFault (check 4 (leb (length s) (23 * (total z + 1))) ∷ []
 -- "tested through its lines and end", line 01 having given the sizes
 abbrev pub linesNumber : Sizes → List ℕ → ℕ
 linesNumber z s = first (lineFault z s) (total z) (endNumber z s)
-
--- "nu, N, nx, b, W, sweeps, 0, 0"
-abbrev pub sizeWords : Sizes → List ℤ
-sizeWords z = pos (z .nu) ∷ pos (z .steps) ∷ pos (z .nx) ∷ pos (z .b) ∷ pos (z .w) ∷ pos (z .sweeps) ∷ pos 0 ∷ pos 0 ∷ []
 
 -- "then H, Φ, lows, highs, β, state limits in sheet order"
 abbrev pub linesWords : Sizes → List ℕ → List ℤ

@@ -6,13 +6,10 @@ ghost use lib.ListN.{replicate};
 ghost use lib.IntN.{pos};
 ghost use Rattle.image.specs.Sizes.{Sound};
 ghost use Rattle.frame.specs.Frame.{total};
-ghost use Rattle.sheet.specs.Sheet.{lineFault, sizeWords, linesNumber, linesWords, sheetNumber, sheetWords};
-ghost use Rattle.sheet.specs.Reading.{ReadTo, Answered};
-use double::Converted;
-use double::LimitWords;
-use double::Limits;
+ghost use Rattle.lines.specs.Lines.{sizeWords};
+ghost use Rattle.sheet.specs.Sheet.{linesNumber, linesWords, sheetNumber, sheetWords};
+ghost use Rattle.sheet.specs.Reading.{Answered};
 use frame::Head;
-use frame::Value;
 use image::Sizes;
 
 // What the text gives: its number, and with 0 the image's words in front of the array.
@@ -20,41 +17,6 @@ pub struct Outcome {
     pub number: u32,
     pub count: usize,
     pub words: [i64; 477],
-}
-
-// Reads line i after line 01. A low limit is kept as a double until its high limit is read; any other word is stored.
-fn take_line(words: &mut [i64; 477], lows: &mut [f64; 4], s: &[u8], z: Sizes, i: usize) -> u32
-    requires { ⌜ Sound z × (i < total z) × ReadTo z (now s) i (now words) (now lows) ⌝ }
-    ensures { λ r. ⌜ (r ≡ lineFault z (now (s .entry)) i) × (r ≡ 0 → ReadTo z (now (s .entry)) (i + 1) (now (words .exit)) (now (lows .exit))) ⌝ }
-{
-    let d = frame::due_at(z, i);
-    let row = d.row;
-    let x = match frame::value_of(d, line::line_from(s, 23 * (i + 1))) {
-        Value::Double(x) => x,
-        Value::Fault(n) => return n,
-    };
-    if d.kind == 5 {
-        let low = lows[row];
-        match double::inward(Limits { low, high: x }, z.b, z.w) {
-            LimitWords::Pair(low, high) => {
-                words[8 + i - z.nu] = low;
-                words[8 + i] = high;
-                return 0;
-            }
-            LimitWords::NoPair => return 5,
-        }
-    }
-    match frame::word_of(z, d.kind, x) {
-        Converted::Word(v) => {
-            if d.kind == 4 {
-                lows[row] = x;
-            } else {
-                words[8 + i] = v;
-            }
-            0
-        }
-        Converted::Refused => 5,
-    }
 }
 
 // The array with the sizes in front.
@@ -82,7 +44,7 @@ fn read_lines(s: &[u8], z: Sizes) -> Outcome
     let total = image::body_count(z);
     let mut i: usize = 0;
     while i < total {
-        let fault = take_line(&mut words, &mut lows, s, z, i);
+        let fault = lines::take_line(&mut words, &mut lows, s, z, i);
         if fault != 0 {
             return Outcome {
                 number: fault,

@@ -28,8 +28,7 @@ use Rattle.frame.specs.Frame.{convertedWord, dueAt, isLow, lowBase, total, valu
 use Rattle.frame.proofs.Laws.{total-high}
 use Rattle.frame.proofs.Limits.{high-due, high-of, low-due, low-of}
 use Rattle.frame.proofs.Word.{fault-some, is-word, kind-4, kind-5}
-use Rattle.sheet.specs.Reading.{ReadTo}
-use Rattle.sheet.specs.Sheet.{lineDouble, lineFault, lineValue, lineWord}
+use Rattle.lines.specs.Lines.{lineDouble, lineFault, lineValue, lineWord, ReadTo}
 
 -- ---- what a line holds
 module _ (z : Sizes) (s : List ℕ) (i : ℕ) where

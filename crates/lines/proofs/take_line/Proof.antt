@@ -1,4 +1,4 @@
--- `sheet::take_line` meets its contract: each way out is one law of Step.antt. Assumes nothing.
+-- `lines::take_line` meets its contract: each way out is one law of Step.antt. Assumes nothing.
 use native.Mathlib.Omega.{arith}
 use mathlib.Core.Path.{_≡_, sym, ap, _∙_}
 use Prim.Native.Nat.{ℕ, _+_, _-_, _≤_, _<_}
@@ -13,10 +13,10 @@ use Rattle.frame.specs.declared.Value.the-variants.{Double}
 use Rattle.frame.specs.Frame.{dueAt, lowBase, valueDouble, wordOf}
 use Rattle.frame.proofs.Laws.{total-high}
 use Rattle.frame.proofs.Limits.{high-due, high-of, low-due, low-of}
-use Rattle.sheet.specs.Sheet.{lineFault, lineValue, lineWord}
-use Rattle.sheet.proofs.Step.{fault-none, fault-refused, fault-word, pair-fault, pair-words, step-low, step-pair, step-word, value-fault, value-is}
-use Rattle.sheet.proofs.take_line.Statement.{statement}
-use Rattle.sheet.proofs.take_line.Tie as tie
+use Rattle.lines.specs.Lines.{lineFault, lineValue, lineWord}
+use Rattle.lines.proofs.Step.{fault-none, fault-refused, fault-word, pair-fault, pair-words, step-low, step-pair, step-word, value-fault, value-is}
+use Rattle.lines.proofs.take_line.Statement.{statement}
+use Rattle.lines.proofs.take_line.Tie as tie
 
 -- the place is in the tables
 module _ (c : tie.After-due-at) where

@@ -1,0 +1,2 @@
+-- What the contracts and the laws of lines cite.
+pub mod Lines

@@ -1,0 +1,46 @@
+// The lines after line 01, taken one by one: a low limit is kept as a double until its high limit is read.
+ghost use mathlib.Core.Path.{_≡_};
+ghost use Prim.Native.Nat.{_+_, _<_};
+ghost use Rattle.image.specs.Sizes.{Sound};
+ghost use Rattle.frame.specs.Frame.{total};
+ghost use Rattle.lines.specs.Lines.{lineFault, ReadTo};
+use double::Converted;
+use double::LimitWords;
+use double::Limits;
+use frame::Value;
+use image::Sizes;
+
+// Reads line i after line 01. A low limit is kept as a double until its high limit is read; any other word is stored.
+pub fn take_line(words: &mut [i64; 477], lows: &mut [f64; 4], s: &[u8], z: Sizes, i: usize) -> u32
+    requires { ⌜ Sound z × (i < total z) × ReadTo z (now s) i (now words) (now lows) ⌝ }
+    ensures { λ r. ⌜ (r ≡ lineFault z (now (s .entry)) i) × (r ≡ 0 → ReadTo z (now (s .entry)) (i + 1) (now (words .exit)) (now (lows .exit))) ⌝ }
+{
+    let d = frame::due_at(z, i);
+    let row = d.row;
+    let x = match frame::value_of(d, line::line_from(s, 23 * (i + 1))) {
+        Value::Double(x) => x,
+        Value::Fault(n) => return n,
+    };
+    if d.kind == 5 {
+        let low = lows[row];
+        match double::inward(Limits { low, high: x }, z.b, z.w) {
+            LimitWords::Pair(low, high) => {
+                words[8 + i - z.nu] = low;
+                words[8 + i] = high;
+                return 0;
+            }
+            LimitWords::NoPair => return 5,
+        }
+    }
+    match frame::word_of(z, d.kind, x) {
+        Converted::Word(v) => {
+            if d.kind == 4 {
+                lows[row] = x;
+            } else {
+                words[8 + i] = v;
+            }
+            0
+        }
+        Converted::Refused => 5,
+    }
+}
