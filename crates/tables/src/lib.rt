@@ -42,12 +42,12 @@ pub fn tables_number(image: &[u8], z: Sizes) -> u32
 pub fn image_number(image: &[u8]) -> u32
     ensures { λ r. ⌜ r ≡ imageNumber (now (image .entry)) ⌝ }
 {
-    let head = image::head_number(image);
+    let head = integrity::head_number(image);
     if head != 0 {
         return head;
     }
     let z = image::sizes_of(image);
-    let body = image::body_number(image, z);
+    let body = integrity::body_number(image, z);
     if body != 0 {
         return body;
     }
