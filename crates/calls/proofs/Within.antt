@@ -11,12 +11,12 @@ use Rattle.word.specs.Word.{wordAt, wordsAt}
 use Rattle.word.proofs.Words.{length-words-at, getD-words-at}
 use Rattle.gradient.specs.Problem.{Command}
 use Rattle.gradient.specs.Demand.{inputsWithin, startWithin}
-use Rattle.image.specs.declared.Sizes.{Sizes}
 use Rattle.gradient.specs.Index.{allTo}
+use Rattle.gradient.proofs.Tests.{every2-to}
+use Rattle.image.specs.declared.Sizes.{Sizes}
 use Rattle.image.specs.Sizes.{commandCount}
 use Rattle.image.specs.Layout.{lowerAt, upperAt, boundAt, commandAt, problemAt}
 use Rattle.interface.specs.Calls.{inputsOf, startOf}
-use Rattle.gradient.proofs.Tests.{every2-to}
 use Rattle.interface.proofs.Accept.{commands-length, command-at, bounds-length, input-bound-at}
 
 -- ---- 13: a value of the state, and its limit

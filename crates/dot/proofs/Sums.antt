@@ -12,14 +12,10 @@ use mir.Facts.{toZ-ofZ}
 use Rattle.integer.specs.Round.{floor, ceil}
 use Rattle.integer.proofs.Laws.{abs-mul, abs-add}
 use Rattle.integer.proofs.Floor.{floor-abs, ceil-least}
-use Rattle.integer.proofs.Machine.{mag-abs}
+use Rattle.integer.proofs.Machine.{fit-abs}
 use Rattle.gradient.specs.Index.{sumZ}
 use Rattle.gradient.proofs.Index.{sumZ-split, sumZ-one}
 use Rattle.dot.specs.Sums.{Sums, Summable}
-
--- in 64 bits
-pub fits : (z : ℤ) → natAbs z < 2 ^ 63 → SFits w64 z
-fits z h = record { sfits = omega (arith, mag-abs z) }
 
 -- ---- one term
 pub product-size : (x y : ℤ) → natAbs x ≤ 2 ^ 31 → natAbs y ≤ 2 ^ 31 → natAbs (x *ℤ y) ≤ 2 ^ 62
@@ -36,16 +32,16 @@ one-sum f a x e h = (e ∙ sym (sumZ-one f a), omega arith)
 -- ---- two sums side by side
 module _ (f : ℕ → ℤ) (a m k n : ℕ) (x y : ℤ) (all : m + k ≡ n) (few : m + k ≤ 16) (p : Sums f a m x) (q : Sums f (a + m) k y) where
   fx : SFits w64 x
-  fx = fits x (omega (arith, p .1))
+  fx = fit-abs x (omega (arith, p .1))
 
   fy : SFits w64 y
-  fy = fits y (omega (arith, q .1))
+  fy = fit-abs y (omega (arith, q .1))
 
   size : natAbs (x +ℤ y) ≤ n * 2 ^ 58
   size = omega (arith, abs-add x y, p .1, q .1)
 
   pub join-fits : SFits w64 (toZ w64 (ofZ w64 x) +ℤ toZ w64 (ofZ w64 y))
-  join-fits = rw (toZ-ofZ fx, toZ-ofZ fy) (fits (x +ℤ y) (omega (arith, size)))
+  join-fits = rw (toZ-ofZ fx, toZ-ofZ fy) (fit-abs (x +ℤ y) (omega (arith, size)))
 
   pub join : Sums f a n (toZ w64 (ofZ w64 (toZ w64 (ofZ w64 x) +ℤ toZ w64 (ofZ w64 y))))
   join = rw (toZ-ofZ join-fits, toZ-ofZ fx, toZ-ofZ fy) ((cc (p .0, q .0)) ∙ sym (sumZ-split f a m k) ∙ ap (sumZ f a) all, size)

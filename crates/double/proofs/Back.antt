@@ -13,13 +13,13 @@ use lib.Ieee.Back.{whole-unique}
 use lib.Ieee.Exact.{HasValue}
 use lib.Ieee.Scale.{round-same}
 use Rattle.integer.proofs.Laws.{abs-mul}
-use Rattle.double.specs.Double.{scalable, rounded, accepted, convert, isNegative, doubleValue, answer, doubleAnswer, HasQuotient, power}
 use Rattle.word.specs.Format.{isFormat, top, inWord}
+use Rattle.word.proofs.Format.{format, word-small}
+use Rattle.double.specs.Double.{scalable, rounded, accepted, convert, isNegative, doubleValue, answer, doubleAnswer, HasQuotient, power}
 use Rattle.double.specs.declared.Converted.the-variants.{Word}
 use Rattle.double.proofs.Rules.{IsRule, rule-integer}
 use Rattle.double.proofs.Value.{abs-signed, signed-abs, signed-mul, quotient-of-value, ofInt-value}
 use Rattle.double.proofs.Scale.{round-part}
-use Rattle.word.proofs.Format.{format, word-small}
 
 -- ---- the machine's quotient is one rounding of the exact one
 pub in-float : (z : ℤ) → natAbs z ≤ 2 ^ 53 → T (inFloat binary64 z)

@@ -12,8 +12,8 @@ use lib.Ieee.{Float, nan, inf, fin, binary64, up, down, lt, mul, fits}
 use lib.Ieee.Fits.{down-pos}
 use lib.Ieee.Exact.{HasValue}
 use lib.Ieee.Scale.{finite}
-use Rattle.double.specs.Double.{signed, scalable, rounded, accepted, conversionNumber, convert, convertedNumber, roundUp, roundDown, acceptedLimits, limitsNumber, convertLimits, limitWordsNumber, power, roundedWord}
 use Rattle.word.specs.Format.{isFormat, top, inWord}
+use Rattle.double.specs.Double.{signed, scalable, rounded, accepted, conversionNumber, convert, convertedNumber, roundUp, roundDown, acceptedLimits, limitsNumber, convertLimits, limitWordsNumber, power, roundedWord}
 use Rattle.double.specs.declared.Converted.the-variants.{Word, Refused}
 use Rattle.double.specs.declared.Limits.{Limits}
 use Rattle.double.specs.declared.LimitWords.the-variants.{Pair, NoPair}

@@ -15,9 +15,9 @@ use borrow.Author.Tests.{le-leb, lt-leb, lt-ltb, le-ltb, leb-true, leb-false, lt
 use mir.Facts.{or-yes, and-yes, leb-yes}
 use Rattle.word.specs.Buffer.{putAt}
 use Rattle.word.specs.Digits.{numberBE, digitsBE}
-use Rattle.hex.specs.Hex.{isHex, digitOf, hexes, hexAt, digitByte, hexDigits}
 use Rattle.word.proofs.Buffer.{getD-part, part-put, put-last}
 use Rattle.word.proofs.Digits.{number-lt, number-split, length-digits, digits-each, number-part, digits-number}
+use Rattle.hex.specs.Hex.{isHex, digitOf, hexes, hexAt, digitByte, hexDigits}
 
 -- ---- a digit
 -- the bytes 0 to 9, and A to F

@@ -7,8 +7,8 @@ use lib.IntN.{ℤ}
 use lib.ListN.{length, take}
 use borrow.Author.Tests.{eqb-true, eqb-false}
 use lib.Dec.{eqb}
-use Rattle.interface.specs.Tables.{imageNumber}
 use Rattle.image.proofs.Ordering.{none}
+use Rattle.interface.specs.Tables.{imageNumber}
 use Rattle.sheet.specs.Laws.{reach}
 use Rattle.sheet.specs.Reading.{Answered}
 use Rattle.sheet.specs.Sheet.{sheetImage, sheetNumber, sheetWords}

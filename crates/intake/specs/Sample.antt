@@ -6,8 +6,8 @@ use lib.ListN.{set}
 use lib.Ieee.{ofBits}
 use Rattle.integer.specs.Round.{floor, ceil}
 use Rattle.word.specs.Digits.{numberBE, digitsBE}
-use Rattle.hex.specs.Hex.{isHex, digitOf, hexes, hexAt, digitByte, hexDigits}
 use Rattle.word.specs.Word.{natBE, bytesBE, wordsAt, wordsOut}
+use Rattle.hex.specs.Hex.{isHex, digitOf, hexes, hexAt, digitByte, hexDigits}
 use Rattle.double.specs.Double.{scalable, rounded, accepted}
 use Rattle.gradient.specs.Problem.{F}
 use Rattle.gradient.specs.Bounds.{magnitude, width, rangeP, rangeY, rangeA, rangeB}
@@ -16,8 +16,8 @@ use Rattle.image.specs.Layout.{sizesOf, lowerAt, upperAt, momentumAt, boundAt, 
 use Rattle.interface.specs.Tables.{symmetryTest, othersAt, marginAt, totalAt, leastMargin, largestTotal, momentumRange, momentumRatio, pointTest, rowTest, tablesNumber}
 use Rattle.line.specs.Line.{lineAt}
 use Rattle.frame.specs.Frame.{dueAt, headOf, total, wordOf}
-use Rattle.sheet.specs.Sample.{Sample, changed, lines, sample, text}
 use Rattle.lines.specs.Lines.{lineFault, lineValue, lineWord}
+use Rattle.sheet.specs.Sample.{Sample, changed, lines, sample, text}
 use Rattle.sheet.specs.Sheet.{sheetImage, sheetNumber, sheetWords}
 use Rattle.intake.specs.Intake.{intakeNumber}
 

@@ -15,7 +15,7 @@ pub fn blank_image() -> [u8; 1908]
 }
 
 // Checks 7 to 12. They stand once, on an image's bytes, so the words are written to a buffer first.
-fn tables_number(buffer: &mut [u8], words: &[i64]) -> u32
+fn own_tables(buffer: &mut [u8], words: &[i64]) -> u32
     requires { ⌜ ImageWords (now words) × (length (now buffer) ≡ 4 * length (now words)) ⌝ }
     ensures { λ r. ⌜ r ≡ ownTables (wordsOut (now (words .entry))) ⌝ }
 {
@@ -38,7 +38,7 @@ pub fn intake(sheet: &[u8], image: &mut [u8]) -> u32
     let words = t.words;
     let mut buffer = blank_image();
     let size = 4 * count;
-    let fault = tables_number(&mut buffer[..size], &words[..count]);
+    let fault = own_tables(&mut buffer[..size], &words[..count]);
     if fault != 0 {
         return fault;
     }

@@ -27,11 +27,11 @@ use Rattle.image.specs.declared.Sizes.{Sizes}
 use Rattle.image.specs.Sizes.{commandCount, bodyCount, sound, Sound, Whole}
 use Rattle.image.specs.Layout.{sizesOf, problemAt, problemOf, commandAt, entryAt, entryOf, costAt, gainAt, gainRow, momentumAt, boundAt, boundPlace}
 use Rattle.image.specs.Checks.{headNumber, bodyNumber, wordTest, boundTest}
-use Rattle.interface.specs.Tables.{orderTest, symmetryTest, marginTest, totalTest, momentumRange, momentumRatio, pointTest, rowTest, othersAt, marginAt, tablesNumber, imageNumber}
-use Rattle.interface.specs.Accepted.{Accepted}
 use Rattle.image.proofs.Ordering.{passed, both, none}
 use Rattle.image.proofs.Sized.{sound-facts}
 use Rattle.image.proofs.Reading.{cost-word, gain-word, lower-word, upper-word, bound-word}
+use Rattle.interface.specs.Tables.{orderTest, symmetryTest, marginTest, totalTest, momentumRange, momentumRatio, pointTest, rowTest, othersAt, marginAt, tablesNumber, imageNumber}
+use Rattle.interface.specs.Accepted.{Accepted}
 
 -- ---- the tests that have passed
 pub head-whole : (s : List ℕ) → headNumber s ≡ 0 → Whole (sizesOf s) s

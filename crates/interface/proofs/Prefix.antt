@@ -25,12 +25,12 @@ use Rattle.gradient.proofs.Index.{tab-cong, sumN-cong}
 use Rattle.image.specs.declared.Sizes.{Sizes}
 use Rattle.image.specs.Order.{orElse}
 use Rattle.image.specs.Sizes.{between, sound, commandCount, bodyCount}
-use Rattle.interface.specs.Calls.{inputsOf, startOf, callNumber, solveNumber, solveAnswer, answerAfter, commandsAfter, boundsAfter}
 use Rattle.image.specs.Layout.{sizesOf, problemOf, costAt, costRow, gainRow, lowerAt, upperAt, momentumAt, boundAt, entryOf, commandAt, problemAt, lowerPlace, upperPlace, momentumPlace, boundPlace, costOffset, gainOffset}
-use Rattle.interface.specs.Demand.{withSweeps, Prefix}
 use Rattle.image.specs.Checks.{headNumber, wordTest, boundTest, bodyNumber}
-use Rattle.interface.specs.Tables.{orderTest, symmetryTest, marginTest, totalTest, momentumRange, momentumRatio, pointTest, rowTest, othersAt, marginAt, totalAt, leastTo, largestTo, leastMargin, largestTotal, eqZ, tablesNumber, imageNumber}
 use Rattle.image.proofs.Ordering.{passed, both, none}
+use Rattle.interface.specs.Calls.{inputsOf, startOf, callNumber, solveNumber, solveAnswer, answerAfter, commandsAfter, boundsAfter}
+use Rattle.interface.specs.Demand.{withSweeps, Prefix}
+use Rattle.interface.specs.Tables.{orderTest, symmetryTest, marginTest, totalTest, momentumRange, momentumRatio, pointTest, rowTest, othersAt, marginAt, totalAt, leastTo, largestTo, leastMargin, largestTotal, eqZ, tablesNumber, imageNumber}
 use Rattle.interface.proofs.Accept.{accepted}
 
 all-cong : (p q : ℕ → Bool) (n : ℕ) → ((i : ℕ) → p i ≡ q i) → allTo p n ≡ allTo q n

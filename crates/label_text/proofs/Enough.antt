@@ -14,8 +14,8 @@ use Rattle.interface.proofs.Accept.{accepted}
 use Rattle.sheet.proofs.Reach.{enough-image}
 use Rattle.intake.specs.Intake.{intakeImage, intakeNumber}
 use Rattle.intake.proofs.Laws.{accepted-image, enough-number}
-use Rattle.text.specs.Text.{refusal}
 use Rattle.state_file.proofs.StateFile.{not-state}
+use Rattle.text.specs.Text.{refusal}
 use Rattle.label_text.specs.Label.{imageText, labelText}
 use Rattle.label_text.proofs.Printed.{malformed}
 

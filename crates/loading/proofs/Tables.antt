@@ -12,11 +12,12 @@ use Rattle.gradient.specs.Index.{sumZ}
 use Rattle.gradient.specs.Problem.{Command, Problem, F}
 use Rattle.gradient.specs.Scheme.{linear}
 use Rattle.gradient.specs.Bounds.{slack, width}
-use Rattle.gradient.proofs.Index.{sumZ-cong, linear-sum, tab-length, tab-at}
+use Rattle.gradient.proofs.Index.{sumZ-cong, linear-sum, tab-at}
 use Rattle.image.specs.declared.Sizes.{Sizes}
 use Rattle.image.specs.Sizes.{commandCount}
 use Rattle.image.specs.Layout.{sizesOf, boundPlace, gainRow, entryAt, commandAt, problemAt, problemOf}
 use Rattle.interface.specs.Calls.{inputsOf}
+use Rattle.interface.proofs.Accept.{commands-length}
 use Rattle.array.specs.Arrays.{Filled, Tabled}
 use Rattle.dot.specs.Sums.{inputTerm}
 use Rattle.rows.specs.declared.Terms.{Terms}
@@ -55,29 +56,25 @@ pub record Represents (p : Problem) (inputs : List ℤ) (m : List (List ℤ)) (t
 
 -- ---- the problem of an image
 module _ (z : Sizes) (image : List ℕ) where
-  pub commands-length : length (problemAt z image .commands) ≡ commandCount z
-  unfolding problemAt
-  commands-length = tab-length (commandAt z image) (commandCount z)
-
   inputs-length : length (problemAt z image .inputBounds) ≡ z .nx
   unfolding problemAt
   inputs-length = length-map (wordsAt image (boundPlace z) (z .nx)) natAbs ∙ length-words-at image (boundPlace z) (z .nx)
 
   pub command-is : (i : ℕ) → i < length (problemAt z image .commands) → command (problemAt z image) i ≡ commandAt z image i
   unfolding problemAt
-  command-is i h = tab-at (commandAt z image) (commandCount z) i nothing (rw commands-length at h)
+  command-is i h = tab-at (commandAt z image) (commandCount z) i nothing (rw (commands-length z image) at h)
 
   module _ (state : List ℕ) (m : List (List ℤ)) (t : Terms) (table : Tabled (commandCount z) (entryAt z image) m) (of : TermsOf z image state t) where
     below : {i : ℕ} → i < length (problemAt z image .commands) → i < commandCount z
-    below h = rw commands-length at h
+    below h = rw (commands-length z image) at h
 
     represents-at : Represents (problemAt z image) (inputsOf z state) m t
     unfolding problemAt commandAt slack
     represents-at = record {
-      n-is = of .n-is ∙ sym commands-length;
+      n-is = of .n-is ∙ sym (commands-length z image);
       b-is = of .b-is;
       momentum-is = of .momentum-is;
-      slack-is = of .slack-is ∙ (rw (commands-length, inputs-length));
+      slack-is = of .slack-is ∙ (rw (commands-length z image, inputs-length));
       rows = λ i h j l. rw (command-is i h) (table i (below h) .each j (below l) ∙ sym (tab-at (entryAt z image i) (commandCount z) j (pos 0) (below l)));
       lowers = λ i h. rw (command-is i h) (of .lowers .each i (below h));
       uppers = λ i h. rw (command-is i h) (of .uppers .each i (below h));

@@ -19,10 +19,7 @@ word-parts (negsuc n) f = (omega arith, omega (arith, f .sfits))
 pub width-most : (u l : ℤ) → SFits w32 u → SFits w32 l → natAbs (u -ℤ l) ≤ 2 ^ 32 - 1
 width-most u l f g = abs! (int u ⊖ int l) (omega (arith, word-parts u f, word-parts l g)) (omega (arith, word-parts u f, word-parts l g))
 
--- a quotient rounded up: by any power of two, and by at least 16
-pub ceil-most : (n b : ℕ) → ceil n (2 ^ b) ≤ n
-ceil-most n b = ceil-least (pow-pos b) (let h : 1 * n ≤ 2 ^ b * n = mul-le-mul (pow-pos b) (omega arith) in omega arith)
-
+-- a quotient rounded up, by at least 16
 pub ceil-less : (n b k : ℕ) → 4 ≤ b → n ≤ 16 * k → ceil n (2 ^ b) ≤ k
 ceil-less n b k h l =
     let p : 2 ^ 4 ≤ 2 ^ b = pow-mono {j = b} h in

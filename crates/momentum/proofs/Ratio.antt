@@ -12,11 +12,11 @@ use borrow.Author.Tests.{leb-true, leb-false, lt-ltb, le-ltb}
 use Rattle.integer.specs.Parts.{up, dn, int, nat, _⊕_, _⊖_}
 use Rattle.integer.proofs.Parts.{le?, abs! }
 use Rattle.integer.proofs.Tests.{of-true, both}
+use Rattle.gradient.proofs.Tests.{all-at}
 use Rattle.image.specs.declared.Sizes.{Sizes}
 use Rattle.image.specs.Sizes.{commandCount}
 use Rattle.image.specs.Layout.{costAt, momentumAt}
 use Rattle.interface.specs.Tables.{marginTest, totalTest, othersAt, marginAt, totalAt, leastMargin, largestTotal, momentumRange}
-use Rattle.gradient.proofs.Tests.{all-at}
 use Rattle.momentum.specs.Ready.{MomentumReady}
 use Rattle.momentum.proofs.Least.{least-one, largest-one}
 

@@ -3,8 +3,8 @@ use Prim.Native.Nat.{ℕ}
 use mathlib.Core.Path.{_≡_}
 use mathlib.Core.Bool.{true}
 use mathlib.Core.List.{List}
-use Rattle.image.specs.declared.Sizes.{Sizes}
 use Rattle.gradient.specs.Index.{allTo}
+use Rattle.image.specs.declared.Sizes.{Sizes}
 use Rattle.image.specs.Sizes.{Whole, commandCount}
 use Rattle.interface.specs.Tables.{marginTest, totalTest, momentumRange}
 

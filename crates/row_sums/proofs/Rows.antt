@@ -14,12 +14,12 @@ use Rattle.gradient.specs.Index.{sumN}
 use Rattle.gradient.specs.Problem.{F}
 use Rattle.gradient.specs.Bounds.{rangeP, rangeY, rangeA, rangeB}
 use Rattle.gradient.proofs.Index.{sumN-cong, rangeA-sum, rangeB-sum, tab-at}
+use Rattle.gradient.proofs.Tests.{all-at}
 use Rattle.image.specs.declared.Sizes.{Sizes}
 use Rattle.image.specs.Sizes.{commandCount, Sound}
 use Rattle.image.specs.Layout.{costOffset, gainOffset, entryAt, commandAt, problemAt}
-use Rattle.interface.specs.Tables.{pointTest, othersAt}
-use Rattle.gradient.proofs.Tests.{all-at}
 use Rattle.image.proofs.Sized.{row-end}
+use Rattle.interface.specs.Tables.{pointTest, othersAt}
 use Rattle.interface.proofs.Accept.{commands-length, command-at, bounds-length, input-bound-at, row-length, gains-length, gain-at}
 use Rattle.row_sums.specs.Terms.{termAt, termRow, termCount, termMost, PointsPass, TermsReady}
 use Rattle.row_sums.specs.declared.Term.{Term}

@@ -8,8 +8,8 @@ use lib.Dec.{eqb}
 use lib.IntN.{ℤ, natAbs}
 use Rattle.integer.specs.Round.{ceil}
 use Rattle.gradient.specs.Bounds.{rangeY}
-use Rattle.image.specs.declared.Sizes.{Sizes}
 use Rattle.gradient.specs.Index.{allTo}
+use Rattle.image.specs.declared.Sizes.{Sizes}
 use Rattle.image.specs.Sizes.{Whole, commandCount}
 use Rattle.image.specs.Layout.{costRow, gainRow, costAt, gainAt, boundAt, entryAt, commandAt, problemAt}
 use Rattle.interface.specs.Tables.{pointTest}

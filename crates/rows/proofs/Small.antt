@@ -1,23 +1,16 @@
 -- What the rows of M give is small. Assumes nothing.
 use mathlib.Core.List.{List}
-use Prim.Native.Nat.{ℕ, _^_, _≤_}
-use native.Mathlib.Nat.{mul-le-mul-right}
+use Prim.Native.Nat.{ℕ, _≤_}
 use native.Mathlib.Omega.{arith}
 use lib.ListN.{getD}
 use lib.IntN.{ℤ, pos, natAbs}
-use lib.Pow.{pow-pos}
 use Rattle.integer.specs.Parts.{int}
-use Rattle.integer.specs.Round.{ceil, clamp}
-use Rattle.integer.proofs.Floor.{ceil-least}
+use Rattle.integer.specs.Round.{clamp}
 use Rattle.integer.proofs.Parts.{abs!, abs-both, whole}
 use Rattle.integer.proofs.Clamping.{Clamped, raised, lowered, kept, clamped}
 use Rattle.array.specs.Arrays.{Filled, WordsTo, NatsTo}
 use Rattle.rows.specs.declared.Terms.{Terms}
 use Rattle.rows.specs.Rows.{unclampedAt, zAt, eAt, Fitting}
-
--- a share is no larger than the whole
-pub ceil-most : (n b : ℕ) {k : ℕ} → n ≤ k → ceil n (2 ^ b) ≤ k
-ceil-most n b {k} h = ceil-least (pow-pos b) (omega (arith, mul-le-mul-right k (pow-pos b)))
 
 -- a clamped number is no larger than the limits
 pub clamp-most : (lower upper t : ℤ) {k : ℕ} → natAbs lower ≤ k → natAbs upper ≤ k → natAbs (clamp lower upper t) ≤ k

@@ -10,8 +10,8 @@ use lib.Dec.{eqb, leb, lit<}
 use lib.Ieee.{binary64, ofBits}
 use lib.ListN.{length}
 use borrow.Author.Tests.{eqb-true, leb-true}
-use Rattle.hex.specs.Hex.{hexAt}
 use Rattle.word.specs.Word.{wordAt}
+use Rattle.hex.specs.Hex.{hexAt}
 use Rattle.double.specs.Double.{rounded, ruleOf}
 use Rattle.image.specs.Order.{orElse}
 use Rattle.image.specs.Sizes.{bodyCount, Sound}
@@ -27,12 +27,12 @@ use Rattle.frame.specs.Frame.{dueAt, frameSizes, isDue, roundingOf, total, valu
 use Rattle.frame.proofs.Sized.{differ, head-sizes, head-sound}
 use Rattle.frame.proofs.Laws.{total-is}
 use Rattle.frame.proofs.Word.{due-double, word-rounded}
-use Rattle.sheet.specs.Laws.{Rounded}
 use Rattle.lines.specs.Lines.{lineDouble, lineFault, lineValue, lineWord}
+use Rattle.lines.proofs.Step.{fault-none, passed-word}
+use Rattle.sheet.specs.Laws.{Rounded}
 use Rattle.sheet.specs.Sheet.{endNumber, first, sheetImage, sheetNumber}
 use Rattle.sheet.proofs.Answer.{Passing, passing}
 use Rattle.sheet.proofs.Image.{image-sizes, image-word}
-use Rattle.lines.proofs.Step.{fault-none, passed-word}
 
 -- no fault among the first n, and none after them
 first-zero : (f : ℕ → ℕ) (n e : ℕ) → first f n e ≡ 0 → ((k : ℕ) → k < n → f k ≡ 0) × (e ≡ 0)

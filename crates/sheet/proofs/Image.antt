@@ -16,11 +16,11 @@ use Rattle.word.specs.Word.{natAt, wordAt, wordsOut}
 use Rattle.word.proofs.Words.{length-words, word-of-words, nat-of-words}
 use Rattle.gradient.specs.Index.{tab, allTo}
 use Rattle.gradient.proofs.Index.{tab-at}
+use Rattle.gradient.proofs.Tests.{all-of}
 use Rattle.image.specs.Sizes.{commandCount, bodyCount, sound, Sound, Whole}
 use Rattle.image.specs.Layout.{sizesOf, boundAt, boundPlace}
 use Rattle.image.specs.Checks.{headNumber, bodyNumber, wordTest, boundTest}
 use Rattle.image.specs.declared.Sizes.{Sizes}
-use Rattle.gradient.proofs.Tests.{all-of}
 use Rattle.line.specs.Line.{lineAt}
 use Rattle.frame.specs.declared.Due.{Due}
 use Rattle.frame.specs.Frame.{dueAt, total}

@@ -18,8 +18,8 @@ use Rattle.frame.specs.declared.Value.{Value}
 use Rattle.frame.specs.Frame.{convertedWord, dueAt, headOf, total, valueDouble, valueNumber, valueOf, wordOf}
 use Rattle.frame.proofs.Sized.{head-sound}
 use Rattle.frame.proofs.Laws.{total-high}
-use Rattle.sheet.specs.Laws.{reach, reachOf}
 use Rattle.lines.specs.Lines.{lineFault, lineValue, lineWord, sizeWords}
+use Rattle.sheet.specs.Laws.{reach, reachOf}
 use Rattle.sheet.specs.Sheet.{endNumber, first, headNumber, headWords, linesNumber, linesWords, sheetImage, sheetNumber, sheetWords}
 
 first-cong : (f g : ℕ → ℕ) (n e d : ℕ) → ((k : ℕ) → k < n → f k ≡ g k) → e ≡ d → first f n e ≡ first g n d

@@ -19,8 +19,8 @@ use Rattle.image.specs.declared.Sizes.{Sizes}
 use Rattle.image.specs.Order.{orElse}
 use Rattle.frame.specs.Frame.{isLow, lowBase, total}
 use Rattle.frame.proofs.Laws.{total-high, total-is}
-use Rattle.sheet.specs.Reading.{Answered}
 use Rattle.lines.specs.Lines.{lineFault, lineWord, sizeWords, ReadTo}
+use Rattle.sheet.specs.Reading.{Answered}
 use Rattle.sheet.specs.Sheet.{endNumber, first, linesNumber, linesWords}
 
 -- ---- the first fault

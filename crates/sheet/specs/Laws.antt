@@ -3,8 +3,8 @@ use Prim.Native.Nat.{ℕ, _+_, _*_}
 use mathlib.Core.Path.{_≡_}
 use mathlib.Core.List.{List}
 use lib.Ieee.{binary64, ofBits}
-use Rattle.hex.specs.Hex.{hexAt}
 use Rattle.word.specs.Word.{wordAt}
+use Rattle.hex.specs.Hex.{hexAt}
 use Rattle.double.specs.Double.{rounded, ruleOf}
 use Rattle.image.specs.declared.Sizes.{Sizes}
 use Rattle.line.specs.Line.{lineAt}

@@ -6,8 +6,8 @@ use lib.ListN.{set, take}
 use lib.Ieee.{ofBits}
 use Rattle.integer.specs.Round.{floor}
 use Rattle.word.specs.Digits.{numberBE, digitsBE}
-use Rattle.hex.specs.Hex.{isHex, digitOf, hexes, hexAt, digitByte, hexDigits}
 use Rattle.word.specs.Word.{bytesBE, wordsOut}
+use Rattle.hex.specs.Hex.{isHex, digitOf, hexes, hexAt, digitByte, hexDigits}
 use Rattle.double.specs.Double.{scalable, rounded, accepted}
 use Rattle.image.specs.Sizes.{sound}
 use Rattle.line.specs.Line.{lineAt}

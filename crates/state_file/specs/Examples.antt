@@ -4,8 +4,8 @@ use mathlib.Core.Bool.{true, false}
 use mathlib.Core.List.{List, [], _∷_}
 use Prim.Native.Nat.{ℕ}
 use Rattle.word.specs.Digits.{numberBE, digitsBE}
-use Rattle.hex.specs.Hex.{isHex, digitOf, hexes, hexAt}
 use Rattle.word.specs.Word.{bytesBE}
+use Rattle.hex.specs.Hex.{isHex, digitOf, hexes, hexAt}
 use Rattle.state_file.specs.StateFile.{isState, stateWords}
 
 -- "state 0000000A"

@@ -5,8 +5,8 @@ use Prim.Native.Nat.{ℕ, _+_, _≤_}
 use native.Mathlib.Omega.{arith}
 use lib.ListN.{length, set, length-append}
 use Rattle.word.specs.Buffer.{putAt}
-use Rattle.hex.specs.Hex.{hexDigits}
 use Rattle.word.proofs.Buffer.{put-next, set-next}
+use Rattle.hex.specs.Hex.{hexDigits}
 use Rattle.hex.proofs.Hex.{length-hex}
 use Rattle.text.specs.Text.{line}
 

@@ -2,8 +2,8 @@
 use mathlib.Core.Path.{_≡_, refl}
 use mathlib.Core.List.{[], _∷_}
 use Rattle.word.specs.Digits.{numberBE, digitsBE}
-use Rattle.hex.specs.Hex.{digitByte, hexDigits}
 use Rattle.word.specs.Word.{natBE}
+use Rattle.hex.specs.Hex.{digitByte, hexDigits}
 use Rattle.text.specs.Text.{line, lines, refusal}
 
 -- "prints the single line FFFFFFEE 00000003"

@@ -6,8 +6,8 @@ use mathlib.Core.List.{List, [], _∷_, _++_}
 use lib.Dec.{eqb}
 use lib.ListN.{length, take}
 use Rattle.word.specs.Digits.{digitsBE}
-use Rattle.hex.specs.Hex.{hexDigits}
 use Rattle.word.specs.Word.{natAt}
+use Rattle.hex.specs.Hex.{hexDigits}
 use Rattle.text.specs.declared.Text.{Text}
 
 -- ---- the text

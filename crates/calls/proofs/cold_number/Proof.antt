@@ -6,9 +6,9 @@ use borrow.Author.Tests.{eq-eqb, ne-eqb}
 use Rattle.image.specs.declared.Sizes.{Sizes}
 use Rattle.image.specs.Sizes.{Whole, commandCount}
 use Rattle.image.specs.Layout.{sizesOf}
+use Rattle.image.proofs.Ordering.{refused, onward}
 use Rattle.interface.specs.Calls.{coldNumber}
 use Rattle.interface.proofs.Accept.{accepted}
-use Rattle.image.proofs.Ordering.{refused, onward}
 use Rattle.interface.proofs.Accept.{whole-of}
 use borrow.Author.Needs.{needs}
 use Rattle.calls.proofs.cold_number.Statement.{statement}

@@ -9,8 +9,8 @@ use borrow.Author.Tests.{le-leb, lt-leb}
 use Rattle.integer.proofs.Machine.{back}
 use Rattle.word.specs.Word.{wordAt}
 use Rattle.gradient.specs.Index.{allTo}
-use Rattle.image.specs.Layout.{boundAt}
 use Rattle.gradient.proofs.Tests.{all-fails}
+use Rattle.image.specs.Layout.{boundAt}
 use Rattle.calls.proofs.Within.{inputTest, inputs-to}
 use Rattle.calls.proofs.inputs_pass.Statement.{statement}
 use Rattle.calls.proofs.inputs_pass.Tie as tie

@@ -1,8 +1,8 @@
 -- `calls::solve_number` meets its contract. Assumes nothing.
 use mathlib.Core.Path.{sym, _∙_}
+use Rattle.image.proofs.Ordering.{refused, onward}
 use Rattle.interface.specs.Calls.{solveNumber}
 use Rattle.interface.proofs.Accept.{accepted}
-use Rattle.image.proofs.Ordering.{refused, onward}
 use borrow.Author.Needs.{needs}
 use Rattle.calls.proofs.solve_number.Statement.{statement}
 use Rattle.calls.proofs.solve_number.Tie as tie

@@ -7,8 +7,8 @@ use Prim.Native.Nat.{ℕ, _-_, _≤_}
 use borrow.Author.Tests.{not-true, not-false}
 use Rattle.integer.proofs.Machine.{back}
 use Rattle.gradient.specs.Index.{allTo}
-use Rattle.image.specs.Sizes.{commandCount}
 use Rattle.gradient.proofs.Tests.{all-fails}
+use Rattle.image.specs.Sizes.{commandCount}
 use Rattle.calls.proofs.Within.{startTest, start-to}
 use Rattle.calls.proofs.start_passes.Statement.{statement}
 use Rattle.calls.proofs.start_passes.Tie as tie

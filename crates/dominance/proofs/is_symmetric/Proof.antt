@@ -7,10 +7,10 @@ use Prim.Native.Nat.{ℕ, _-_, _≤_}
 use borrow.Author.Tests.{not-true, not-false}
 use Rattle.integer.proofs.Machine.{back}
 use Rattle.gradient.specs.Index.{allTo}
+use Rattle.gradient.proofs.Tests.{all-fails}
 use Rattle.image.specs.Sizes.{commandCount}
 use Rattle.image.specs.Layout.{costAt}
 use Rattle.interface.specs.Tables.{eqZ, symmetryTest}
-use Rattle.gradient.proofs.Tests.{all-fails}
 use Rattle.dominance.proofs.is_symmetric.Statement.{statement}
 use Rattle.dominance.proofs.is_symmetric.Tie as tie
 

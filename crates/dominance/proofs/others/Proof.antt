@@ -5,8 +5,8 @@ use Prim.Native.Nat.{_^_, _≤_}
 use lib.IntN.{pos}
 use mir.Syntax.{w64}
 use mir.Facts.{toZ-pos}
-use Rattle.row_sums.specs.Terms.{termRow, termCount, termMost, TermRoom}
 use Rattle.word.proofs.Buffer.{rest-from}
+use Rattle.row_sums.specs.Terms.{termRow, termCount, termMost, TermRoom}
 use Rattle.row_sums.proofs.Rows.{others-terms}
 use borrow.Author.Needs.{needs}
 use Rattle.dominance.proofs.others.Statement.{statement}

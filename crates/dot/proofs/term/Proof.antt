@@ -7,9 +7,9 @@ use lib.IntN.{ℤ, pos, natAbs, _*ℤ_}
 use mir.Syntax.{w64}
 use mir.Val.{SFits}
 use mir.Facts.{toZ-ofZ}
-use Rattle.integer.proofs.Machine.{back}
+use Rattle.integer.proofs.Machine.{back, fit-abs}
 use Rattle.dot.specs.Sums.{productAt}
-use Rattle.dot.proofs.Sums.{fits, product-size, rounded-size, one-sum}
+use Rattle.dot.proofs.Sums.{product-size, rounded-size, one-sum}
 use borrow.Author.Needs.{needs}
 use Rattle.dot.proofs.term.Statement.{statement}
 use Rattle.dot.proofs.term.Tie as tie
@@ -32,16 +32,16 @@ module _ (c : tie.After-floor-div-arg2) where
   sz = a .pre .right (a .args .a) (omega arith)
 
   fx : SFits w64 x
-  fx = fits x (omega (arith, sx))
+  fx = fit-abs x (omega (arith, sx))
 
   fz : SFits w64 z
-  fz = fits z (omega (arith, sz))
+  fz = fit-abs z (omega (arith, sz))
 
   small : natAbs (x *ℤ z) ≤ 2 ^ 62
   small = product-size x z sx sz
 
   whole : SFits w64 (x *ℤ z)
-  whole = fits (x *ℤ z) (omega (arith, small))
+  whole = fit-abs (x *ℤ z) (omega (arith, small))
 
 mul-floor-div : tie.Need-mul-floor-div
 mul-floor-div c = search needs

@@ -7,9 +7,9 @@ use lib.IntN.{ℤ, pos, natAbs}
 use mir.Syntax.{w64}
 use mir.Val.{SFits}
 use mir.Facts.{toZ-ofZ}
+use Rattle.integer.proofs.Machine.{fit-abs}
 use Rattle.gradient.proofs.Index.{sumN-next, sumN-mono}
 use Rattle.dot.specs.Sums.{weightTo}
-use Rattle.dot.proofs.Sums.{fits}
 use Rattle.dot.proofs.weight.Statement.{statement}
 use Rattle.dot.proofs.weight.Tie as tie
 
@@ -37,7 +37,7 @@ module _ (c : tie.In-loop Inv-loop μ-loop) where
   sx = a .pre .row j (omega arith)
 
   fits-x : SFits w64 x
-  fits-x = fits x (omega (arith, sx))
+  fits-x = fit-abs x (omega (arith, sx))
 
   abbrev f : ℕ → ℕ
   f k = natAbs (getD (a .args .r .now) k (pos 0)) * getD (a .args .q .now) k 0

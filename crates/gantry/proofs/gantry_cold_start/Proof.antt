@@ -4,12 +4,12 @@ use lib.ListN.{length}
 use borrow.Author.Tests.{eq-eqb, ne-eqb}
 use Rattle.interface.proofs.Demand.{cold-accepted}
 use borrow.Author.Needs.{needs}
+use Rattle.calls.proofs.cold_number.Reads as cold-number-reads
+use Rattle.solve.proofs.cold_start.Reads as cold-start-reads
 use Rattle.gantry.proofs.gantry_cold_start.Statement.{statement}
 use Rattle.gantry.proofs.gantry_cold_start.Tie as tie
 use Rattle.gantry.proofs.gantry_cold_start.Reads as reads
 use Rattle.gantry.proofs.gantry_cold_start.Lts as lts
-use Rattle.calls.proofs.cold_number.Reads as cold-number-reads
-use Rattle.solve.proofs.cold_start.Reads as cold-start-reads
 
 cold-number-requires : tie.Need-cold-number-requires
 cold-number-requires c κs = search needs

@@ -6,12 +6,12 @@ use Rattle.interface.specs.Demand.{Guarantee}
 use Rattle.interface.proofs.Demand.{solvable}
 use Rattle.interface.proofs.Guaranteed.{guaranteed}
 use borrow.Author.Needs.{needs}
+use Rattle.calls.proofs.solve_number.Reads as solve-number-reads
+use Rattle.solve.proofs.solve.Reads as solve-reads
 use Rattle.gantry.proofs.gantry_solve.Statement.{statement}
 use Rattle.gantry.proofs.gantry_solve.Tie as tie
 use Rattle.gantry.proofs.gantry_solve.Reads as reads
 use Rattle.gantry.proofs.gantry_solve.Lts as lts
-use Rattle.calls.proofs.solve_number.Reads as solve-number-reads
-use Rattle.solve.proofs.solve.Reads as solve-reads
 
 solve-number-requires : tie.Need-solve-number-requires
 solve-number-requires c κs = search needs

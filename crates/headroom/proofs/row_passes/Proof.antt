@@ -1,9 +1,9 @@
 -- `headroom::row_passes` meets its contract. Assumes nothing.
 use native.Mathlib.Omega.{arith}
 use mathlib.Core.Path.{refl}
+use Rattle.word.proofs.Buffer.{rest-from}
 use Rattle.interface.specs.Tables.{rowTest}
 use Rattle.row_sums.specs.Terms.{termRow, termCount, termMost, TermRoom}
-use Rattle.word.proofs.Buffer.{rest-from}
 use Rattle.row_sums.proofs.Rows.{range-terms, gain-terms}
 use borrow.Author.Needs.{needs}
 use Rattle.headroom.proofs.row_passes.Statement.{statement}

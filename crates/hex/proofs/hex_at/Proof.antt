@@ -4,9 +4,9 @@ use Prim.Native.Nat.{ℕ, _≤_, _-_, _<_, _^_, _*_, _+_}
 use native.Mathlib.Omega.{arith}
 use native.Mathlib.Nat.{lt-of-lt-of-le, pow-le-pow-right}
 use mir.Facts.{fits-of-lt}
-use Rattle.hex.specs.Hex.{hexAt}
 use Rattle.word.specs.Digits.{numberBE}
 use Rattle.word.proofs.Digits.{number-grows}
+use Rattle.hex.specs.Hex.{hexAt}
 use Rattle.hex.proofs.Hex.{hex-more}
 use Rattle.hex.proofs.hex_at.Statement.{statement}
 use Rattle.hex.proofs.hex_at.Tie as tie

@@ -5,8 +5,8 @@ use native.Mathlib.Omega.{arith}
 use lib.ListN.{length, length-set}
 use Rattle.word.specs.Buffer.{putAt}
 use Rattle.word.specs.Digits.{digitsBE}
-use Rattle.hex.specs.Hex.{hexDigits}
 use Rattle.word.proofs.Buffer.{put-nothing}
+use Rattle.hex.specs.Hex.{hexDigits}
 use Rattle.hex.proofs.Hex.{put-more}
 use Rattle.hex.proofs.put_hex.Statement.{statement}
 use Rattle.hex.proofs.put_hex.Tie as tie

@@ -50,17 +50,17 @@ mul-size c = search needs
 array-borrow-prefix-buffer : tie.Need-array-borrow-prefix-buffer
 array-borrow-prefix-buffer c = search needs
 
-slice-aggregate-tables-number : tie.Need-slice-aggregate-tables-number
-slice-aggregate-tables-number c = omega (arith, length-take (4 * count c) (c .before .blank-image .result), short c)
+slice-aggregate-own-tables : tie.Need-slice-aggregate-own-tables
+slice-aggregate-own-tables c = omega (arith, length-take (4 * count c) (c .before .blank-image .result), short c)
 
 array-share-prefix-words : tie.Need-array-share-prefix-words
 array-share-prefix-words c = room-for (start c .args .sheet .now) _ _ _ (rs c .read-sheet .ensures) (zero c)
 
-slice-aggregate-tables-number-2 : tie.Need-slice-aggregate-tables-number-2
-slice-aggregate-tables-number-2 c = let d = c .before in sym (read-long (start d .args .sheet .now) _ _ _ (rs d .read-sheet .ensures) (zero d))
+slice-aggregate-own-tables-2 : tie.Need-slice-aggregate-own-tables-2
+slice-aggregate-own-tables-2 c = let d = c .before in sym (read-long (start d .args .sheet .now) _ _ _ (rs d .read-sheet .ensures) (zero d))
 
-tables-number-requires : tie.Need-tables-number-requires
-tables-number-requires c κs =
+own-tables-requires : tie.Need-own-tables-requires
+own-tables-requires c κs =
     let d = c .before in
     let l = read-long (start d .args .sheet .now) _ _ _ (rs d .read-sheet .ensures) (zero d) in
     (image-words (start d .args .sheet .now) _ _ _ (rs d .read-sheet .ensures) (zero d), omega (arith, length-take (4 * count d) (d .before .blank-image .result), short d, l))
@@ -69,13 +69,13 @@ returns-2 : tie.Need-returns-2
 returns-2 c =
     let d = c .before .before .before .before in
     let s = start d .args in
-    (refused-tables (s .sheet .now) _ _ _ (rs d .read-sheet .ensures) (zero d) _ (c .before .before .tables-number .ensures) (length (s .image .now)) (c .if2 .taken), rw (ne-eqb _ 0 (c .if2 .taken)))
+    (refused-tables (s .sheet .now) _ _ _ (rs d .read-sheet .ensures) (zero d) _ (c .before .before .own-tables .ensures) (length (s .image .now)) (c .if2 .taken), rw (ne-eqb _ 0 (c .if2 .taken)))
 
 returns-3 : tie.Need-returns-3
 returns-3 c =
     let d = c .before .before .before .before .before in
     let s = start d .args in
-    (refused-room (s .sheet .now) _ _ _ (rs d .read-sheet .ensures) (zero d) _ (c .before .before .before .tables-number .ensures) (length (s .image .now)) (c .before .if2 .left) (c .if3 .taken), refl)
+    (refused-room (s .sheet .now) _ _ _ (rs d .read-sheet .ensures) (zero d) _ (c .before .before .before .own-tables .ensures) (length (s .image .now)) (c .before .if2 .left) (c .if3 .taken), refl)
 
 array-share-prefix-words-2 : tie.Need-array-share-prefix-words-2
 array-share-prefix-words-2 c =
@@ -101,7 +101,7 @@ returns-4 c =
     let f = c .before .before .before .before .before in
     let d = buffer f in
     let s = start d .args in (
-      accepted-call (s .sheet .now) _ _ _ (rs d .read-sheet .ensures) (zero d) _ (f .before .before .before .tables-number .ensures) (length (s .image .now)) (f .before .if2 .left) (f .if3 .left),
+      accepted-call (s .sheet .now) _ _ _ (rs d .read-sheet .ensures) (zero d) _ (f .before .before .before .own-tables .ensures) (length (s .image .now)) (f .before .if2 .left) (f .if3 .left),
       c .before .before .put-words .ensures ∙ read-image (s .sheet .now) _ _ _ (rs d .read-sheet .ensures) (zero d),
     )
 
@@ -114,10 +114,10 @@ intake-spec =
     blank-image-requires
     mul-size
     array-borrow-prefix-buffer
-    slice-aggregate-tables-number
+    slice-aggregate-own-tables
     array-share-prefix-words
-    slice-aggregate-tables-number-2
-    tables-number-requires
+    slice-aggregate-own-tables-2
+    own-tables-requires
     returns-2
     returns-3
     array-share-prefix-words-2

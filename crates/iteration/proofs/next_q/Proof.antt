@@ -1,12 +1,13 @@
 -- `iteration::next_q` meets its contract. Assumes nothing.
 use native.Mathlib.Omega.{arith}
+use lib.Pow.{pow-pos}
 use mathlib.Core.Path.{_≡_}
 use Prim.Native.Nat.{ℕ, _+_, _*_, _-_, _^_, _≤_, _<_}
-use native.Mathlib.Nat.{mul-le-mul}
+use native.Mathlib.Nat.{le-trans, mul-le-mul}
 use lib.ListN.{getD}
 use Rattle.integer.specs.Round.{ceil}
+use Rattle.integer.proofs.Floor.{ceil-most}
 use Rattle.array.proofs.Filling.{Filling, none, more, full}
-use Rattle.rows.proofs.Small.{ceil-most}
 use Rattle.iteration.specs.Steps.{qAt}
 use Rattle.iteration.proofs.next_q.Statement.{statement}
 use Rattle.iteration.proofs.next_q.Tie as tie
@@ -38,7 +39,7 @@ module _ (c : tie.In-loop Inv-loop μ-loop) where
   errors = mul-le-mul {n₂ = 2 ^ 20} {m₂ = 2 ^ 33} (omega (arith, a .pre .0 .momentum-most)) (omega (arith, new, old))
 
   added : ceil p (2 ^ a .args .t .b) ≤ 2 ^ 53
-  added = ceil-most p (a .args .t .b) errors
+  added = le-trans (ceil-most p (pow-pos (a .args .t .b))) errors
 
 blank-errors-requires : tie.Need-blank-errors-requires Inv-loop μ-loop
 blank-errors-requires c κs = tt

@@ -9,8 +9,7 @@ use mir.Val.{toZ, SFits}
 use mir.Facts.{toZ-ofZ, toZ-pos}
 use Rattle.integer.specs.Round.{floor}
 use Rattle.integer.proofs.Laws.{abs-sub}
-use Rattle.integer.proofs.Machine.{back, shl-toZ}
-use Rattle.dot.proofs.Sums.{fits}
+use Rattle.integer.proofs.Machine.{back, shl-toZ, fit-abs}
 use Rattle.iteration.specs.Steps.{pointOf}
 use Rattle.iteration.proofs.Steps.{factor-size, kept-size}
 use borrow.Author.Needs.{needs}
@@ -35,7 +34,7 @@ module _ (a : tie.Start) where
   gain = omega (arith, pow-mono {j = 20} (a .pre .0 .0))
 
   fits-gain : SFits w64 (pos (2 ^ b + β))
-  fits-gain = fits (pos (2 ^ b + β)) (omega (arith, gain))
+  fits-gain = fit-abs (pos (2 ^ b + β)) (omega (arith, gain))
 
   left : natAbs (pos (2 ^ b + β) *ℤ a .args .new) ≤ 2 ^ 52
   left = factor-size (2 ^ b + β) (a .args .new) gain (a .pre .1 .0)
@@ -44,10 +43,10 @@ module _ (a : tie.Start) where
   right = factor-size β (a .args .old) (omega arith) (a .pre .1 .1)
 
   fits-left : SFits w64 (pos (2 ^ b + β) *ℤ a .args .new)
-  fits-left = fits (pos (2 ^ b + β) *ℤ a .args .new) (omega (arith, left))
+  fits-left = fit-abs (pos (2 ^ b + β) *ℤ a .args .new) (omega (arith, left))
 
   fits-right : SFits w64 (pos β *ℤ a .args .old)
-  fits-right = fits (pos β *ℤ a .args .old) (omega (arith, right))
+  fits-right = fit-abs (pos β *ℤ a .args .old) (omega (arith, right))
 
 -- the two quotients, and their difference
 module _ (c : tie.After-floor-div2) where
@@ -70,7 +69,7 @@ module _ (c : tie.After-floor-div2) where
   whole =
       let sx : natAbs x ≤ 2 ^ 52 = rw ex (kept-size (pos (2 ^ b s + β s) *ℤ s .args .new) (b s) (left s)) in
       let sy : natAbs y ≤ 2 ^ 52 = rw ey (kept-size (pos (β s) *ℤ s .args .old) (b s) (right s)) in
-      fits (x -ℤ y) (omega (arith, abs-sub x y))
+      fit-abs (x -ℤ y) (omega (arith, abs-sub x y))
 
 cast-f : tie.Need-cast-f
 cast-f c = search needs

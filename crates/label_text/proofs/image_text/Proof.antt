@@ -14,8 +14,8 @@ use Rattle.image.specs.declared.Sizes.{Sizes}
 use Rattle.interface.specs.Calls.{coldAnswer, solveNumber, solveAnswer}
 use Rattle.interface.proofs.Accept.{accepted}
 use Rattle.state_file.specs.StateFile.{isState, stateWords}
-use Rattle.text.specs.Text.{Holds, lines}
 use Rattle.state_file.proofs.StateFile.{state-length}
+use Rattle.text.specs.Text.{Holds, lines}
 use Rattle.label_text.specs.Label.{imageText}
 use Rattle.label_text.proofs.Printed.{answered, malformed, refused}
 use Rattle.label_text.proofs.image_text.Statement.{statement}

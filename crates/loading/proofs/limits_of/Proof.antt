@@ -8,12 +8,11 @@ use mir.Syntax.{w64}
 use mir.Val.{toZ, ofZ, SFits}
 use mir.Facts.{toZ-ofZ}
 use Rattle.integer.proofs.Laws.{abs-sub}
-use Rattle.integer.proofs.Machine.{back}
+use Rattle.integer.proofs.Machine.{back, fit-abs}
 use Rattle.gradient.specs.Bounds.{width}
 use Rattle.image.specs.Sizes.{commandCount}
 use Rattle.image.specs.Layout.{lowerAt, upperAt, commandAt}
 use Rattle.array.proofs.Filling.{Filling, none, more, full}
-use Rattle.dot.proofs.Sums.{fits}
 use Rattle.loading.specs.Tables.{widthAt}
 use Rattle.loading.proofs.limits_of.Statement.{statement}
 use Rattle.loading.proofs.limits_of.Tie as tie
@@ -45,7 +44,7 @@ module _ (c : tie.After-upper-at Inv-loop μ-loop) where
   size = omega (arith, abs-sub high low, natAbs-le high (c .upper-at .ensures .1 .sfits), natAbs-le low (c .before .lower-at .ensures .1 .sfits))
 
   whole : SFits w64 (high -ℤ low)
-  whole = fits (high -ℤ low) (omega (arith, size))
+  whole = fit-abs (high -ℤ low) (omega (arith, size))
 
 mul-n : tie.Need-mul-n Inv-loop μ-loop
 mul-n c = omega arith

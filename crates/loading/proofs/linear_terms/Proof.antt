@@ -8,13 +8,13 @@ use lib.IntN.{ℤ, pos, natAbs}
 use mir.Syntax.{w64}
 use mir.Val.{toZ, ofZ}
 use Rattle.integer.proofs.Machine.{back}
+use Rattle.word.proofs.Buffer.{rest-from}
 use Rattle.image.specs.declared.Sizes.{Sizes}
 use Rattle.image.specs.Sizes.{commandCount}
 use Rattle.image.specs.Layout.{gainRow}
 use Rattle.array.proofs.Filling.{Filling, none, more, all}
 use Rattle.dot.specs.Sums.{inputTerm, Sums}
 use Rattle.loading.specs.Tables.{linearAt}
-use Rattle.word.proofs.Buffer.{rest-from}
 use Rattle.loading.proofs.Tables.{linear-is}
 use Rattle.loading.proofs.linear_terms.Statement.{statement}
 use Rattle.loading.proofs.linear_terms.Tie as tie

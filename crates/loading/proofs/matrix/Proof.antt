@@ -5,12 +5,12 @@ use mathlib.Core.List.{List, []}
 use Prim.Native.Nat.{ℕ, _-_}
 use lib.ListN.{length-take, length-drop}
 use lib.IntN.{ℤ, pos}
+use Rattle.word.proofs.Buffer.{rest-from}
 use Rattle.image.specs.declared.Sizes.{Sizes}
 use Rattle.image.specs.Sizes.{commandCount}
 use Rattle.image.specs.Layout.{entryOf, entryAt}
 use Rattle.array.specs.Arrays.{Filled}
 use Rattle.array.proofs.Filling.{Filling, none, more, all}
-use Rattle.word.proofs.Buffer.{rest-from}
 use Rattle.loading.proofs.matrix.Statement.{statement}
 use Rattle.loading.proofs.matrix.Tie as tie
 

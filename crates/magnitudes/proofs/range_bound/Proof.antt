@@ -1,12 +1,13 @@
 -- `magnitudes::range_bound` meets its contract. Assumes nothing.
 use native.Mathlib.Omega.{arith}
+use lib.Pow.{pow-pos}
 use native.Mathlib.Nat.{mul-le-mul}
 use mathlib.Core.Path.{_≡_, ap, _∙_}
 use Prim.Native.Nat.{_*_, _-_, _^_, _≤_}
 use lib.IntN.{natAbs}
 use Rattle.integer.proofs.Machine.{back}
+use Rattle.integer.proofs.Floor.{ceil-most}
 use Rattle.image.specs.Layout.{momentumAt}
-use Rattle.magnitudes.proofs.Bounds.{ceil-most}
 use borrow.Author.Needs.{needs}
 use Rattle.magnitudes.proofs.range_bound.Statement.{statement}
 use Rattle.magnitudes.proofs.range_bound.Tie as tie
@@ -36,7 +37,7 @@ ceil-div-requires : tie.Need-ceil-div-requires
 ceil-div-requires c κs = (omega (arith, product c), omega arith)
 
 add-result : tie.Need-add-result
-add-result c = record { fits = omega (arith, product (c .before), c .ceil-div .ensures, ceil-most (c .before .before .size .result * c .before .before .before .before .before .args .x) (c .before .before .before .before .before .args .z .b), c .before .largest-limit .ensures .1) }
+add-result c = record { fits = omega (arith, product (c .before), c .ceil-div .ensures, ceil-most (c .before .before .size .result * c .before .before .before .before .before .args .x) (pow-pos (c .before .before .before .before .before .args .z .b)), c .before .largest-limit .ensures .1) }
 
 returns : tie.Need-returns
 returns c = cc (c .before .largest-limit .ensures .0, c .ceil-div .ensures, momentum (c .before))

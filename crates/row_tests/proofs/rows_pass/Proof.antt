@@ -6,8 +6,8 @@ use mathlib.Core.Bool.{true}
 use Prim.Native.Nat.{ℕ, _-_, _≤_}
 use borrow.Author.Tests.{not-true, not-false}
 use Rattle.gradient.specs.Index.{allTo}
-use Rattle.image.specs.Sizes.{commandCount}
 use Rattle.gradient.proofs.Tests.{all-fails}
+use Rattle.image.specs.Sizes.{commandCount}
 use Rattle.row_tests.specs.Tests.{testAt}
 use Rattle.row_tests.proofs.rows_pass.Statement.{statement}
 use Rattle.row_tests.proofs.rows_pass.Tie as tie

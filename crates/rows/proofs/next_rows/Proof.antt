@@ -1,5 +1,6 @@
 -- `rows::next_rows` meets its contract. Assumes nothing.
 use native.Mathlib.Omega.{arith}
+use lib.Pow.{pow-pos}
 use mathlib.Core.Path.{_≡_, ap, _∙_}
 use Prim.Native.Nat.{ℕ, _+_, _*_, _-_, _^_, _≤_, _<_, min}
 use lib.ListN.{getD}
@@ -9,11 +10,10 @@ use mir.Val.{toZ, ofZ, SFits}
 use mir.Facts.{toZ-ofZ}
 use Rattle.integer.specs.Round.{ceil, clamp}
 use Rattle.integer.proofs.Laws.{abs-sub}
-use Rattle.integer.proofs.Machine.{back}
+use Rattle.integer.proofs.Machine.{back, fit-abs}
+use Rattle.integer.proofs.Floor.{ceil-most}
 use Rattle.array.proofs.Filling.{Filling, none, more, full}
-use Rattle.dot.proofs.Sums.{fits}
 use Rattle.rows.specs.Rows.{unclampedAt, zAt, eAt}
-use Rattle.rows.proofs.Small.{ceil-most}
 use Rattle.rows.proofs.next_rows.Statement.{statement}
 use Rattle.rows.proofs.next_rows.Tie as tie
 
@@ -41,10 +41,10 @@ module _ (c : tie.After-x Inv-loop μ-loop) where
   small = start .pre .0 .0 .linears i (omega arith)
 
   fh : SFits w64 h
-  fh = fits h (omega (arith, small))
+  fh = fit-abs h (omega (arith, small))
 
   whole : SFits w64 (x -ℤ h)
-  whole = fits (x -ℤ h) (omega (arith, abs-sub x h, small, c .before .dot .ensures .1, start .pre .0 .0 .few))
+  whole = fit-abs (x -ℤ h) (omega (arith, abs-sub x h, small, c .before .dot .ensures .1, start .pre .0 .0 .few))
 
   made : toZ w64 (ofZ w64 (toZ w64 (ofZ w64 x) -ℤ toZ w64 (ofZ w64 h))) ≡ unclampedAt (start .args .t1) (start .args .t2) (start .args .t3) i
   unfolding unclampedAt
@@ -128,7 +128,7 @@ ceil-div-requires : tie.Need-ceil-div-requires Inv-loop μ-loop
 ceil-div-requires c κs = (omega (arith, light c), omega arith)
 
 add-w : tie.Need-add-w Inv-loop μ-loop
-add-w c = record { fits = omega (arith, c .ceil-div .ensures, ceil-most (c .before .weight .result) (start (at-x (c .before)) .args .t2 .b) {k = 2 ^ 54} (omega (arith, light (c .before)))) }
+add-w c = record { fits = omega (arith, c .ceil-div .ensures, ceil-most (c .before .weight .result) (pow-pos (start (at-x (c .before)) .args .t2 .b)), light (c .before)) }
 
 mul-smaller : tie.Need-mul-smaller Inv-loop μ-loop
 mul-smaller c = omega arith

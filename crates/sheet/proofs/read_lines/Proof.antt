@@ -3,9 +3,9 @@ use native.Mathlib.Omega.{arith}
 use mathlib.Core.Path.{_≡_, refl, sym, _∙_, subst}
 use Prim.Native.Nat.{ℕ, _≤_, _-_}
 use Rattle.frame.proofs.Laws.{total-high, total-is}
+use Rattle.frame.specs.Frame as spec
 use Rattle.lines.specs.Lines.{ReadTo}
 use Rattle.sheet.proofs.Whole.{read-start, taken-all, taken-fault, taken-long}
-use Rattle.frame.specs.Frame as spec
 use Rattle.sheet.proofs.read_lines.Statement.{statement}
 use Rattle.sheet.proofs.read_lines.Tie as tie
 

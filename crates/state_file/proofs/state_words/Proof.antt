@@ -5,10 +5,10 @@ use mathlib.Core.Path.{_≡_, refl, sym, ap, subst, _∙_}
 use Prim.Native.Nat.{ℕ, _+_, _*_, _-_, _≤_}
 use lib.ListN.{length, take}
 use Rattle.word.specs.Buffer.{putAt}
-use Rattle.hex.specs.Hex.{hexAt}
 use Rattle.word.specs.Word.{bytesOf}
 use Rattle.word.proofs.Words.{length-bytes}
 use Rattle.word.proofs.Buffer.{front-put}
+use Rattle.hex.specs.Hex.{hexAt}
 use Rattle.state_file.specs.StateFile.{stateWords}
 use Rattle.state_file.proofs.state_words.Statement.{statement}
 use Rattle.state_file.proofs.state_words.Tie as tie

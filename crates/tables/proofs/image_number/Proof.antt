@@ -6,9 +6,9 @@ use Rattle.image.specs.Order.{orElse}
 use Rattle.image.specs.Sizes.{Whole}
 use Rattle.image.specs.Layout.{sizesOf}
 use Rattle.image.specs.Checks.{headNumber, bodyNumber}
+use Rattle.image.proofs.Ordering.{refused, onward}
 use Rattle.interface.specs.Tables.{tablesNumber, imageNumber}
 use Rattle.interface.proofs.Accept.{head-whole}
-use Rattle.image.proofs.Ordering.{refused, onward}
 use Rattle.interface.proofs.Accept.{whole-of}
 use borrow.Author.Needs.{needs}
 use Rattle.tables.proofs.image_number.Statement.{statement}

@@ -4,8 +4,8 @@ use mathlib.Core.Bool.{Bool, true}
 use mathlib.Core.List.{List}
 use Prim.Native.Nat.{ℕ}
 use borrow.Author.Tests.{not-true, not-false}
-use Rattle.image.specs.declared.Sizes.{Sizes}
 use Rattle.gradient.specs.Index.{allTo}
+use Rattle.image.specs.declared.Sizes.{Sizes}
 use Rattle.image.specs.Sizes.{commandCount}
 use Rattle.interface.specs.Tables.{orderTest, symmetryTest, marginTest, totalTest, momentumRange, momentumRatio, pointTest, tablesNumber}
 use Rattle.row_tests.specs.Tests.{testAt, TestRoom}

@@ -1,12 +1,12 @@
--- `intake::tables_number` meets its contract: the buffer holds the words' image. Assumes nothing.
+-- `intake::own_tables` meets its contract: the buffer holds the words' image. Assumes nothing.
 use mathlib.Core.Path.{ap, _∙_}
 use native.Mathlib.Omega.{arith}
-use Rattle.interface.specs.Tables.{tablesNumber}
 use Rattle.image.specs.declared.Sizes.{Sizes}
+use Rattle.interface.specs.Tables.{tablesNumber}
 use borrow.Author.Needs.{needs}
 use Rattle.intake.specs.Intake.{ownTables}
-use Rattle.intake.proofs.tables_number.Statement.{statement}
-use Rattle.intake.proofs.tables_number.Tie as tie
+use Rattle.intake.proofs.own_tables.Statement.{statement}
+use Rattle.intake.proofs.own_tables.Tie as tie
 
 put-words-requires : tie.Need-put-words-requires
 put-words-requires c κs = search needs
@@ -30,7 +30,7 @@ returns c =
     let d = s .before .before .before .before in
     c .tables-number .ensures ∙ ap (λ (z : Sizes). tablesNumber z (d .put-words .last .0)) (s .sizes-of .ensures) ∙ ap ownTables (d .put-words .ensures)
 
-pub tables-number-spec : {M : Type 1} → statement M
-tables-number-spec =
+pub own-tables-spec : {M : Type 1} → statement M
+own-tables-spec =
     tie.close
     (tie.spec put-words-requires sizes-of-requires tables-number-requires same-length returns)
