@@ -2,10 +2,10 @@
 use mathlib.Core.Path.{_≡_}
 use mathlib.Core.List.{List}
 use Prim.Native.Nat.{ℕ, _*_, _≤_}
-use lib.Dec.{eqb, lit<}
+use lib.Dec.{eqb, lit<, lit≤}
 use lib.ListN.{length}
 use borrow.Author.Tests.{eqb-true}
-use Rattle.gradient.specs.Demand.{Demand3, inputsWithin, startWithin}
+use Rattle.gradient.specs.Demand.{Demand3, FirstSweep, inputsWithin, startWithin}
 use Rattle.gradient.proofs.Demand as theorem
 use Rattle.gradient.proofs.Tests.{of-true}
 use Rattle.image.specs.Sizes.{commandCount}
@@ -59,3 +59,9 @@ module _ (image state start : List ℕ) (s : Solvable image state start) where
 -- the theorem: whatever a solve accepts
 pub demand3 : (image state start : List ℕ) (room : ℕ) → solveNumber image state start room ≡ 0 → SolveClaim image state start
 demand3 image state start room e = claims image state start (solvable image state start room e .0)
+
+-- the first sweep, read off the claim on bytes
+pub first-sweep : (image state start : List ℕ) → 1 ≤ sizesOf image .sweeps → SolveClaim image state start → FirstSweep (problemOf image) (inputsOf (sizesOf image) state) (startOf (sizesOf image) start)
+unfolding SolveClaim
+first-sweep image state start h c =
+    theorem.first-sweep (problemOf image) (inputsOf (sizesOf image) state) (startOf (sizesOf image) start) 1 (lit≤ tt) (c 1 (lit≤ tt) h)

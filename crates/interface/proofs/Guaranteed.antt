@@ -92,7 +92,7 @@ module _ (image state start : List ℕ) (s : Solvable image state start) where
 
   z-words : Words (commandsAfter image state start sweeps)
   unfolding commandsAfter
-  z-words i h = word-fits (problemOf image) (s .accepted .sized) _ (all1-at (claim .inRange .z-word) (pos 0) i h)
+  z-words i h = word-fits (problemOf image) (s .accepted .sized) _ (all1-at (claim .inRange sweeps (omega arith) .z-word) (pos 0) i h)
 
   commands-said : answeredCommands n (solveAnswer image state start) ≡ commandsAfter image state start sweeps
   unfolding answeredCommands solveAnswer

@@ -14,7 +14,8 @@ use Rattle.image.specs.Layout.{sizesOf, problemOf}
 use Rattle.interface.specs.Tables.{imageNumber}
 use Rattle.interface.specs.Calls.{inputsOf, startOf, answerAfter, solveNumber, solveAnswer}
 
--- the whole claim for "every number of sweeps up to the image's own"
+-- the whole claim for "every number of sweeps up to the image's own": after each of them, of the solve so far, the start and the first sweep
+-- among it
 unfoldable pub SolveClaim : List ℕ → List ℕ → List ℕ → Type 0
 SolveClaim image state start =
     (k : ℕ) → 1 ≤ k → k ≤ sizesOf image .sweeps → Claim (problemOf image) (inputsOf (sizesOf image) state) (startOf (sizesOf image) start) k

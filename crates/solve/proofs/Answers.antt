@@ -43,7 +43,7 @@ module _ {image state start : List ℕ} (ok : Solvable image state start) (k : �
   unfolding commandsAfter Demand3
   commands-fit i h =
       word-fits (problemOf image) (ok .accepted .sized) _
-      (all1-at (demand3 (problemOf image) (inputsOf (sizesOf image) state) (startOf (sizesOf image) start) (ok .accepted .order) (ok .accepted .room) (ok .inputs) (ok .starts) k .inRange .z-word) (pos 0) i h)
+      (all1-at (demand3 (problemOf image) (inputsOf (sizesOf image) state) (startOf (sizesOf image) start) (ok .accepted .order) (ok .accepted .room) (ok .inputs) (ok .starts) k .inRange k (omega arith) .z-word) (pos 0) i h)
 
   module _ (s : State) (at : ReachedOf image state start k s) (n : ℕ) (e : n ≡ commandCount (sizesOf image)) where
     pub few : n ≤ 16

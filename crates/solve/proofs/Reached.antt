@@ -75,7 +75,7 @@ module _ {p : Problem} {inputs start : List ℤ} {m : List (List ℤ)} {t : Term
 
     range : InRange p inputs I
     unfolding Demand3
-    range = demand3 p inputs start (chk .order) (chk .room) (chk .inputs-in) (chk .starts-in) k .inRange
+    range = demand3 p inputs start (chk .order) (chk .room) (chk .inputs-in) (chk .starts-in) k .inRange k (omega arith)
 
     starts : length start ≡ N
     starts = start-length p start (chk .starts-in)
