@@ -1,8 +1,9 @@
 // Checks 6, 3, 6 and 5 of an image: its length, its sizes and its words.
 ghost use mathlib.Core.Path.{_≡_};
 ghost use Rattle.gradient.specs.Index.{allTo};
-ghost use Rattle.image.specs.Sizes.{Whole, bodyCount};
+ghost use Rattle.image.specs.Sizes.{Whole, inputCount, bodyCount};
 ghost use Rattle.image.specs.Checks.{headNumber, wordTest, boundTest, bodyNumber};
+use image::Input;
 use image::Sizes;
 
 // Checks 6, 3 and 6.
@@ -14,9 +15,6 @@ pub fn head_number(image: &[u8]) -> u32
     }
     let z = image::sizes_of(image);
     if !image::is_sound(z) {
-        return 3;
-    }
-    if word::nat_at(image, 24) != 0 {
         return 3;
     }
     if word::nat_at(image, 28) != 0 {
@@ -45,15 +43,15 @@ fn words_pass(image: &[u8], z: Sizes) -> bool
     true
 }
 
-// Whether no limit of a state value is negative.
-fn bounds_pass(image: &[u8], z: Sizes) -> bool
+// Whether no limit of an input is negative.
+fn bounds_pass(image: &[u8], z: Sizes, v: Input) -> bool
     requires { ⌜ Whole z (now image) ⌝ }
-    ensures { λ r. ⌜ r ≡ allTo (boundTest z (now (image .entry))) (z .nx) ⌝ }
+    ensures { λ r. ⌜ r ≡ allTo (boundTest v z (now (image .entry))) (inputCount v z) ⌝ }
 {
-    let count = z.nx;
+    let count = image::input_count(z, v);
     let mut j = 0;
     while j < count {
-        if image::bound_at(image, z, j) < 0 {
+        if image::bound_at(image, z, v, j) < 0 {
             return false;
         }
         j += 1;
@@ -69,5 +67,12 @@ pub fn body_number(image: &[u8], z: Sizes) -> u32
     if !words_pass(image, z) {
         return 5;
     }
-    if bounds_pass(image, z) { 0 } else { 5 }
+    if !bounds_pass(image, z, Input::State) {
+        return 5;
+    }
+    if bounds_pass(image, z, Input::Target) {
+        0
+    } else {
+        5
+    }
 }

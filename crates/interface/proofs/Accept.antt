@@ -7,7 +7,7 @@ use native.Mathlib.Nat.{zero-add}
 use native.Mathlib.Omega.{arith}
 use lib.Dec.{eqb, leb, lit<}
 use lib.IntN.{ℤ, pos, negsuc, natAbs, _-ℤ_}
-use lib.ListN.{length, getD, length-map}
+use lib.ListN.{length, getD, length-map, length-append}
 use lib.Pow.{pow-mono, pow-add, pow-pos}
 use lib.Signed.{leZ, leZ-yes, _≤ℤ_}
 use borrow.Author.Tests.{leb-true, eqb-true}
@@ -16,16 +16,20 @@ use Rattle.integer.proofs.Parts.{abs!, abs?, le?, whole}
 use Rattle.word.specs.Word.{natAt, wordAt, wordsAt}
 use Rattle.word.specs.Format.{top}
 use Rattle.word.proofs.Words.{getD-words-at, length-words-at}
+use Rattle.gradient.specs.Vector.{All1}
 use Rattle.gradient.specs.Index.{allTo}
 use Rattle.gradient.specs.Problem.{Command, F}
 use Rattle.gradient.specs.Bounds.{rangeP, rangeY}
 use Rattle.gradient.specs.Sizes.{Sized, SizedCommand}
 use Rattle.gradient.specs.Demand.{InWord, ordered, headroom}
 use Rattle.gradient.proofs.Index.{tab-length, tab-at, tab-all1, at-all1, map-at}
+use Rattle.gradient.proofs.Append.{all1-append}
 use Rattle.gradient.proofs.Tests.{of-true, at-ordered, at-headroom, RangesFit, all-at}
 use Rattle.image.specs.declared.Sizes.{Sizes}
-use Rattle.image.specs.Sizes.{commandCount, bodyCount, sound, Sound, Whole}
-use Rattle.image.specs.Layout.{sizesOf, problemAt, problemOf, commandAt, entryAt, entryOf, costAt, gainAt, gainRow, momentumAt, boundAt, boundPlace}
+use Rattle.image.specs.declared.Input.{Input}
+use Rattle.image.specs.declared.Input.the-variants.{State, Target}
+use Rattle.image.specs.Sizes.{commandCount, inputCount, bodyCount, sound, Sound, Whole}
+use Rattle.image.specs.Layout.{sizesOf, problemAt, problemOf, commandAt, entryAt, entryOf, costAt, gainAt, gainRow, gainsOf, momentumAt, boundAt, boundsFrom, boundsOf}
 use Rattle.image.specs.Checks.{headNumber, bodyNumber, wordTest, boundTest}
 use Rattle.image.proofs.Ordering.{passed, both, none}
 use Rattle.image.proofs.Sized.{sound-facts}
@@ -39,14 +43,14 @@ unfolding headNumber
 head-whole s e =
     let p₁ = passed (leb 32 (length s)) 6 _ (lit< tt) e in
     let p₂ = passed (sound (sizesOf s)) 3 _ (lit< tt) (p₁ .1) in
-    let p₃ = passed (eqb (natAt s 24) 0) 3 _ (lit< tt) (p₂ .1) in
-    let p₄ = passed (eqb (natAt s 28) 0) 3 _ (lit< tt) (p₃ .1) in
-    let p₅ = passed (eqb (length s) (4 * (8 + bodyCount (sizesOf s)))) 6 _ (lit< tt) (p₄ .1) in
-    record { sizes = sound-facts (sizesOf s) (p₂ .0); size = eqb-true _ _ (p₅ .0) }
+    let p₃ = passed (eqb (natAt s 28) 0) 3 _ (lit< tt) (p₂ .1) in
+    let p₄ = passed (eqb (length s) (4 * (8 + bodyCount (sizesOf s)))) 6 _ (lit< tt) (p₃ .1) in
+    record { sizes = sound-facts (sizesOf s) (p₂ .0); size = eqb-true _ _ (p₄ .0) }
 
 pub record Passed (z : Sizes) (s : List ℕ) : Type 0 where
   pub words : allTo (wordTest z s) (bodyCount z) ≡ true
-  pub bounds : allTo (boundTest z s) (z .nx) ≡ true
+  pub bounds : allTo (boundTest State z s) (z .nx) ≡ true
+  pub target-bounds : allTo (boundTest Target z s) (z .nr) ≡ true
   pub orders : allTo (orderTest z s) (commandCount z) ≡ true
   pub symmetries : allTo (symmetryTest z s) (commandCount z) ≡ true
   pub margins : allTo (marginTest z s) (commandCount z) ≡ true
@@ -61,7 +65,8 @@ unfolding bodyNumber tablesNumber
 tests-passed z s e f =
     let n = commandCount z in
     let a₁ = passed (allTo (wordTest z s) (bodyCount z)) 5 _ (lit< tt) e in
-    let a₂ = passed (allTo (boundTest z s) (z .nx)) 5 _ (lit< tt) (a₁ .1) in
+    let a₂ = passed (allTo (boundTest State z s) (z .nx)) 5 _ (lit< tt) (a₁ .1) in
+    let a₃ = passed (allTo (boundTest Target z s) (z .nr)) 5 _ (lit< tt) (a₂ .1) in
     let p₁ = passed (allTo (orderTest z s) n) 7 _ (lit< tt) f in
     let p₂ = passed (allTo (symmetryTest z s) n) 8 _ (lit< tt) (p₁ .1) in
     let p₃ = passed (allTo (marginTest z s) n) 9 _ (lit< tt) (p₂ .1) in
@@ -73,6 +78,7 @@ tests-passed z s e f =
     record {
       words = a₁ .0;
       bounds = a₂ .0;
+      target-bounds = a₃ .0;
       orders = p₁ .0;
       symmetries = p₂ .0;
       margins = p₃ .0;
@@ -93,27 +99,33 @@ module _ (z : Sizes) (s : List ℕ) where
   unfolding problemAt
   command-at r i h = tab-at (commandAt z s) (commandCount z) i r h
 
-  pub bounds-length : length (problemAt z s .inputBounds) ≡ z .nx
-  unfolding problemAt
-  bounds-length = length-map (wordsAt s (boundPlace z) (z .nx)) natAbs ∙ length-words-at s (boundPlace z) (z .nx)
-
-  pub input-bound-at : (j : ℕ) → j < z .nx → getD (problemAt z s .inputBounds) j 0 ≡ natAbs (boundAt z s j)
-  unfolding problemAt boundAt
-  input-bound-at j h =
-      map-at natAbs (wordsAt s (boundPlace z) (z .nx)) j (pos 0) 0 (rw (length-words-at s (boundPlace z) (z .nx)) h)
-      ∙ ap natAbs (getD-words-at s (boundPlace z) (z .nx) j h)
-
   pub row-length : (i : ℕ) → length (commandAt z s i .row) ≡ commandCount z
   unfolding commandAt
   row-length i = tab-length (entryAt z s i) (commandCount z)
 
-  pub gains-length : (i : ℕ) → length (commandAt z s i .gains) ≡ z .nx
-  unfolding commandAt
-  gains-length i = length-words-at (gainRow z s i) 0 (z .nx)
+  -- of an input, and of both
+  pub bounds-count : (v : Input) → length (boundsOf v z s) ≡ inputCount v z
+  bounds-count v = length-map (wordsAt s (boundsFrom v z) (inputCount v z)) natAbs ∙ length-words-at s (boundsFrom v z) (inputCount v z)
 
-  pub gain-at : (i j : ℕ) → j < z .nx → getD (commandAt z s i .gains) j (pos 0) ≡ gainAt z s i j
+  pub input-bound-at : (v : Input) (j : ℕ) → j < inputCount v z → getD (boundsOf v z s) j 0 ≡ natAbs (boundAt v z s j)
+  unfolding boundAt
+  input-bound-at v j h =
+      map-at natAbs (wordsAt s (boundsFrom v z) (inputCount v z)) j (pos 0) 0 (rw (length-words-at s (boundsFrom v z) (inputCount v z)) h)
+      ∙ ap natAbs (getD-words-at s (boundsFrom v z) (inputCount v z) j h)
+
+  pub gains-count : (v : Input) (i : ℕ) → length (gainsOf v z s i) ≡ inputCount v z
+  gains-count v i = length-words-at (gainRow v z s i) 0 (inputCount v z)
+
+  pub gain-at : (v : Input) (i j : ℕ) → j < inputCount v z → getD (gainsOf v z s i) j (pos 0) ≡ gainAt v z s i j
+  gain-at v i j h = getD-words-at (gainRow v z s i) 0 (inputCount v z) j h ∙ ap (wordAt (gainRow v z s i)) (zero-add (4 * j))
+
+  pub bounds-length : length (problemAt z s .inputBounds) ≡ z .nx + z .nr
+  unfolding problemAt
+  bounds-length = omega (arith, length-append (boundsOf State z s) (boundsOf Target z s), bounds-count State, bounds-count Target)
+
+  gains-length : (i : ℕ) → length (commandAt z s i .gains) ≡ z .nx + z .nr
   unfolding commandAt
-  gain-at i j h = getD-words-at (gainRow z s i) 0 (z .nx) j h ∙ ap (wordAt (gainRow z s i)) (zero-add (4 * j))
+  gains-length i = omega (arith, length-append (gainsOf State z s i) (gainsOf Target z s i), gains-count State i, gains-count Target i)
 
 -- ---- an entry of M is a word: H's diagonal is at least one count
 diagonal : (f t : ℕ) (h : ℤ) → f ≤ t → pos 1 ≤ℤ h → natAbs h ≤ t → natAbs (pos f -ℤ h) ≤ t
@@ -167,30 +179,34 @@ module _ (z : Sizes) (s : List ℕ) (o : Sound z) (p : Passed z s) where
     lower-word = lower-word z s o (p .words) i;
     upper-word = upper-word z s o (p .words) i;
     row-words = tab-all1 (entryAt z s i) (commandCount z) (λ j l. entry-word i j h l);
-    gains-words = at-all1 (wordsAt (gainRow z s i) 0 (z .nx)) (pos 0) (λ j l. gain j (rw (length-words-at (gainRow z s i) 0 (z .nx)) at l));
+    gains-words = all1-append (gains State) (gains Target);
     row-length = row-length z s i ∙ sym (commands-length z s);
     gains-length = gains-length z s i ∙ sym (bounds-length z s);
   }
     where
-      gain : (j : ℕ) → j < z .nx → natAbs (getD (wordsAt (gainRow z s i) 0 (z .nx)) j (pos 0)) ≤ top (z .w)
-      gain j l = rw (getD-words-at (gainRow z s i) 0 (z .nx) j l, zero-add (4 * j)) (gain-word z s o (p .words) i j h l)
+      gains : (v : Input) → All1 (λ (x : ℤ). natAbs x ≤ top (z .w)) (gainsOf v z s i)
+      gains v =
+          at-all1 (gainsOf v z s i) (pos 0)
+          (λ j l. let k : j < inputCount v z = rw (gains-count z s v i) at l in rw (gain-at z s v i j k) (gain-word z s o (p .words) v i j h k))
 
   problem-sized : Sized (problemAt z s)
   unfolding F problemAt
   problem-sized = record {
     commands-most = rw (commands-length z s) (o .n-high);
-    inputs-most = rw (bounds-length z s) (o .nx-high);
+    inputs-most = omega (arith, bounds-length z s, o .nx-high, o .nr-high);
     b-least = o .b-low;
     b-most = o .b-high;
     W-least = o .b-word;
     W-most = o .w-high;
     momentum-most = momentum-most;
-    bounds-words = at-all1 (problemAt z s .inputBounds) 0 (λ j l. bound j (rw (bounds-length z s) at l));
+    bounds-words = all1-append (bounds State) (bounds Target);
     commands-sized = tab-all1 (commandAt z s) (commandCount z) (λ i h. command-sized i h);
   }
     where
-      bound : (j : ℕ) → j < z .nx → getD (problemAt z s .inputBounds) j 0 ≤ top (z .w)
-      bound j l = rw (input-bound-at z s j l) (bound-word z s o (p .words) j l)
+      bounds : (v : Input) → All1 (λ (b : ℕ). b ≤ top (z .w)) (boundsOf v z s)
+      bounds v =
+          at-all1 (boundsOf v z s) 0
+          (λ j l. let k : j < inputCount v z = rw (bounds-count z s v) at l in rw (input-bound-at z s v j k) (bound-word z s o (p .words) v j k))
 
   problem-ordered : ordered (problemAt z s) ≡ true
   unfolding commandAt

@@ -65,7 +65,7 @@ behind-naturals zs es f = sym (tab-list es 0 _ (λ i h. sym (place i h)))
         ∙ naturals-back es i h f
 
 -- ---- the answer of a solve
-module _ (image state start : List ℕ) (s : Solvable image state start) where
+module _ (image state target start : List ℕ) (s : Solvable image state target start) where
   abbrev n : ℕ
   n = commandCount (sizesOf image)
 
@@ -76,32 +76,32 @@ module _ (image state start : List ℕ) (s : Solvable image state start) where
   unfolding problemOf
   size = commands-length (sizesOf image) image
 
-  claim : Claim (problemOf image) (inputsOf (sizesOf image) state) (startOf (sizesOf image) start) sweeps
+  claim : Claim (problemOf image) (inputsOf (sizesOf image) state target) (startOf (sizesOf image) start) sweeps
   unfolding Demand3
-  claim = all-claims image state start s sweeps
+  claim = all-claims image state target start s sweeps
 
-  z-length : length (commandsAfter image state start sweeps) ≡ n
+  z-length : length (commandsAfter image state target start sweeps) ≡ n
   unfolding commandsAfter
   z-length =
-      iterate-z-length (problemOf image) (inputsOf (sizesOf image) state) (startOf (sizesOf image) start) (start-length (problemOf image) (startOf (sizesOf image) start) (s .starts)) sweeps
+      iterate-z-length (problemOf image) (inputsOf (sizesOf image) state target) (startOf (sizesOf image) start) (start-length (problemOf image) (startOf (sizesOf image) start) (s .starts)) sweeps
       ∙ size
 
   e-length : length (boundsAfter image sweeps) ≡ n
   unfolding boundsAfter
   e-length = error-e-length (problemOf image) sweeps ∙ size
 
-  z-words : Words (commandsAfter image state start sweeps)
+  z-words : Words (commandsAfter image state target start sweeps)
   unfolding commandsAfter
   z-words i h = word-fits (problemOf image) (s .accepted .sized) _ (all1-at (claim .inRange sweeps (omega arith) .z-word) (pos 0) i h)
 
-  commands-said : answeredCommands n (solveAnswer image state start) ≡ commandsAfter image state start sweeps
+  commands-said : answeredCommands n (solveAnswer image state target start) ≡ commandsAfter image state target start sweeps
   unfolding answeredCommands solveAnswer
-  commands-said = rw (← z-length) (front-words (commandsAfter image state start sweeps) (wordsOut (map pos (boundsAfter image sweeps))) z-words)
+  commands-said = rw (← z-length) (front-words (commandsAfter image state target start sweeps) (wordsOut (map pos (boundsAfter image sweeps))) z-words)
 
-  bounds-said : answeredBounds n (solveAnswer image state start) ≡ boundsAfter image sweeps
+  bounds-said : answeredBounds n (solveAnswer image state target start) ≡ boundsAfter image sweeps
   unfolding answeredBounds solveAnswer
   bounds-said =
-      let zs = commandsAfter image state start sweeps in
+      let zs = commandsAfter image state target start sweeps in
       let es = boundsAfter image sweeps in
       subst (λ (m : ℕ). tab (λ (i : ℕ). natAt (wordsOut zs ++ wordsOut (map pos es)) (4 * m + 4 * i)) n ≡ es) z-length
       (subst (λ (m : ℕ). tab (λ (i : ℕ). natAt (wordsOut zs ++ wordsOut (map pos es)) (4 * length zs + 4 * i)) m ≡ es) e-length
@@ -110,7 +110,7 @@ module _ (image state start : List ℕ) (s : Solvable image state start) where
       small : (j : ℕ) → j < length (boundsAfter image sweeps) → getD (boundsAfter image sweeps) j 0 < 2 ^ 32
       small j h = unfold boundsAfter in e-fits (problemOf image) (s .accepted .sized) (commandAt (sizesOf image) image 0) sweeps j (omega (arith, e-length, size))
 
-  pub guaranteed : Guarantee image state start (solveAnswer image state start)
+  pub guaranteed : Guarantee image state target start (solveAnswer image state target start)
   unfolding Bounded commandsAfter boundsAfter
   guaranteed = record {
     limits = rw commands-said (claim .bounded);

@@ -1,6 +1,6 @@
 -- The same image with k as its sweeps: accepted too, and what a solve answers on it are the commands and bounds after k sweeps. Assumes nothing.
 use mathlib.Core.Path.{_≡_, refl, sym, ap, subst, _∙_}
-use mathlib.Core.Bool.{Bool, true, cond, _&&_}
+use mathlib.Core.Bool.{true, cond, _&&_}
 use mathlib.Core.List.{List, _++_, map, append-assoc}
 use Prim.Native.Nat.{ℕ, zero, suc, _+_, _-_, _*_, _%_, _^_, _≤_, _<_}
 use native.Mathlib.Omega.{arith}
@@ -16,26 +16,25 @@ use Rattle.word.specs.Buffer.{putAt}
 use Rattle.word.specs.Format.{isFormat, inWord}
 use Rattle.word.proofs.Words.{nat-part, nat-drop, nat-back, word-drop, length-bytes, length-words-at, getD-words-at}
 use Rattle.word.proofs.Buffer.{length-put, part-put}
-use Rattle.gradient.specs.Index.{tab, allTo}
+use Rattle.gradient.specs.Index.{tab}
 use Rattle.gradient.specs.Problem.{Command, Problem, F, withIterations}
 use Rattle.gradient.specs.Scheme.{Iterate, iterate}
 use Rattle.gradient.specs.Bounds.{rangeP, rangeY, rangeA, rangeB, Error, errorAfter}
-use Rattle.gradient.proofs.Prefix.{iterate-prefix, error-prefix, inputs-prefix, start-prefix}
+use Rattle.gradient.proofs.Prefix.{iterate-prefix, error-prefix, start-prefix}
 use Rattle.gradient.proofs.Index.{tab-cong, sumN-cong}
+use Rattle.gradient.proofs.Tests.{all-cong}
 use Rattle.image.specs.declared.Sizes.{Sizes}
+use Rattle.image.specs.declared.Input.{Input}
+use Rattle.image.specs.declared.Input.the-variants.{State, Target}
 use Rattle.image.specs.Order.{orElse}
-use Rattle.image.specs.Sizes.{between, sound, commandCount, bodyCount}
-use Rattle.image.specs.Layout.{sizesOf, problemOf, costAt, costRow, gainRow, lowerAt, upperAt, momentumAt, boundAt, entryOf, commandAt, problemAt, lowerPlace, upperPlace, momentumPlace, boundPlace, costOffset, gainOffset}
+use Rattle.image.specs.Sizes.{between, sound, commandCount, inputCount, bodyCount}
+use Rattle.image.specs.Layout.{sizesOf, problemOf, costAt, costRow, gainRow, lowerAt, upperAt, momentumAt, boundAt, entryOf, commandAt, problemAt, lowerPlace, upperPlace, momentumPlace, boundsFrom, boundsOf, costOffset, gainOffset}
 use Rattle.image.specs.Checks.{headNumber, wordTest, boundTest, bodyNumber}
 use Rattle.image.proofs.Ordering.{passed, both, none}
-use Rattle.interface.specs.Calls.{inputsOf, startOf, callNumber, solveNumber, solveAnswer, answerAfter, commandsAfter, boundsAfter}
+use Rattle.interface.specs.Calls.{valuesOf, inputsOf, startOf, valuesWithin, callNumber, solveNumber, solveAnswer, answerAfter, commandsAfter, boundsAfter}
 use Rattle.interface.specs.Demand.{withSweeps, Prefix}
 use Rattle.interface.specs.Tables.{orderTest, symmetryTest, marginTest, totalTest, momentumRange, momentumRatio, pointTest, rowTest, othersAt, marginAt, totalAt, leastTo, largestTo, leastMargin, largestTotal, eqZ, tablesNumber, imageNumber}
 use Rattle.interface.proofs.Accept.{accepted}
-
-all-cong : (p q : ℕ → Bool) (n : ℕ) → ((i : ℕ) → p i ≡ q i) → allTo p n ≡ allTo q n
-all-cong p q zero h = refl
-all-cong p q (suc n) h = rw (all-cong p q n h, h n)
 
 least-cong : (f g : ℕ → ℤ) (n : ℕ) → ((i : ℕ) → f i ≡ g i) → leastTo f n ≡ leastTo g n
 least-cong f g zero h = h 0
@@ -60,8 +59,9 @@ module _ (z : Sizes) (s t : List ℕ) (e : drop 32 s ≡ drop 32 t) where
   cost-row-same : (i : ℕ) → costRow z s i ≡ costRow z t i
   cost-row-same i = drop-same (costOffset z i) (omega arith)
 
-  gain-row-same : (i : ℕ) → gainRow z s i ≡ gainRow z t i
-  gain-row-same i = drop-same (gainOffset z i) (omega arith)
+  gain-row-same : (v : Input) (i : ℕ) → gainRow v z s i ≡ gainRow v z t i
+  gain-row-same State i = drop-same (gainOffset State z i) (omega arith)
+  gain-row-same Target i = drop-same (gainOffset Target z i) (omega arith)
 
   cost-same : (i j : ℕ) → costAt z s i j ≡ costAt z t i j
   cost-same i j = ap (λ (l : List ℕ). wordAt l (4 * j)) (cost-row-same i)
@@ -78,12 +78,16 @@ module _ (z : Sizes) (s t : List ℕ) (e : drop 32 s ≡ drop 32 t) where
   unfolding momentumAt
   momentum-same = word-same (momentumPlace z) (omega arith)
 
-  bound-same : (j : ℕ) → boundAt z s j ≡ boundAt z t j
-  unfolding boundAt
-  bound-same j = word-same (boundPlace z + 4 * j) (omega arith)
+  behind-head : (v : Input) → 32 ≤ boundsFrom v z
+  behind-head State = omega arith
+  behind-head Target = omega arith
 
-  bounds-same : wordsAt s (boundPlace z) (z .nx) ≡ wordsAt t (boundPlace z) (z .nx)
-  bounds-same = words-same (z .nx) (boundPlace z) (omega arith)
+  bound-same : (v : Input) (j : ℕ) → boundAt v z s j ≡ boundAt v z t j
+  unfolding boundAt
+  bound-same v j = word-same (boundsFrom v z + 4 * j) (omega (arith, behind-head v))
+
+  bounds-same : (v : Input) → boundsOf v z s ≡ boundsOf v z t
+  bounds-same v = ap (map natAbs) (words-same (inputCount v z) (boundsFrom v z) (behind-head v))
     where
       words-same : (n at : ℕ) → 32 ≤ at → wordsAt s at n ≡ wordsAt t at n
       words-same n at h = ext-getD (pos 0) (wordsAt s at n) (wordsAt t at n) (length-words-at s at n ∙ sym (length-words-at t at n)) (λ i l. let k : i < n = rw (length-words-at s at n) at l in getD-words-at s at n i k ∙ word-same (at + 4 * i) (omega arith) ∙ sym (getD-words-at t at n i k))
@@ -91,17 +95,18 @@ module _ (z : Sizes) (s t : List ℕ) (e : drop 32 s ≡ drop 32 t) where
   command-same : (k : ℕ) → commandAt z s k ≡ commandAt z t k
   unfolding commandAt
   command-same k =
-      ap (λ (l : ℤ). made l (upperAt z s k) (costRow z s k) (gainRow z s k)) (lower-same k)
-      ∙ ap (λ (u : ℤ). made (lowerAt z t k) u (costRow z s k) (gainRow z s k)) (upper-same k)
-      ∙ ap (λ (c : List ℕ). made (lowerAt z t k) (upperAt z t k) c (gainRow z s k)) (cost-row-same k)
-      ∙ ap (made (lowerAt z t k) (upperAt z t k) (costRow z t k)) (gain-row-same k)
+      ap (λ (l : ℤ). made l (upperAt z s k) (costRow z s k) (gainRow State z s k) (gainRow Target z s k)) (lower-same k)
+      ∙ ap (λ (u : ℤ). made (lowerAt z t k) u (costRow z s k) (gainRow State z s k) (gainRow Target z s k)) (upper-same k)
+      ∙ ap (λ (c : List ℕ). made (lowerAt z t k) (upperAt z t k) c (gainRow State z s k) (gainRow Target z s k)) (cost-row-same k)
+      ∙ ap (λ (g : List ℕ). made (lowerAt z t k) (upperAt z t k) (costRow z t k) g (gainRow Target z s k)) (gain-row-same State k)
+      ∙ ap (made (lowerAt z t k) (upperAt z t k) (costRow z t k) (gainRow State z t k)) (gain-row-same Target k)
     where
-      made : ℤ → ℤ → List ℕ → List ℕ → Command
-      made l u c g = record { lower = l; upper = u; row = tab (entryOf (z .b) c k) (commandCount z); gains = wordsAt g 0 (z .nx) }
+      made : ℤ → ℤ → List ℕ → List ℕ → List ℕ → Command
+      made l u c g h = record { lower = l; upper = u; row = tab (entryOf (z .b) c k) (commandCount z); gains = wordsAt g 0 (z .nx) ++ wordsAt h 0 (z .nr) }
 
   pub problem-same : problemAt z s ≡ problemAt z t
   unfolding problemAt
-  problem-same = rw (momentum-same, bounds-same, tab-cong (commandAt z s) (commandAt z t) (commandCount z) (λ i h. command-same i))
+  problem-same = rw (momentum-same, bounds-same State, bounds-same Target, tab-cong (commandAt z s) (commandAt z t) (commandCount z) (λ i h. command-same i))
 
   others-same : (i : ℕ) → othersAt z s i ≡ othersAt z t i
   unfolding othersAt
@@ -145,7 +150,8 @@ module _ (z : Sizes) (s t : List ℕ) (e : drop 32 s ≡ drop 32 t) where
   body-number-same =
       rw (
         all-cong (wordTest z s) (wordTest z t) (bodyCount z) (λ i. ap (inWord (z .w)) (word-same (4 * (8 + i)) (omega arith))),
-        all-cong (boundTest z s) (boundTest z t) (z .nx) (λ j. ap (leZ (pos 0)) (bound-same j)),
+        all-cong (boundTest State z s) (boundTest State z t) (z .nx) (λ j. ap (leZ (pos 0)) (bound-same State j)),
+        all-cong (boundTest Target z s) (boundTest Target z t) (z .nr) (λ j. ap (leZ (pos 0)) (bound-same Target j)),
       )
 
   pub tables-number-same : tablesNumber z s ≡ tablesNumber z t
@@ -165,13 +171,15 @@ module _ (z : Sizes) (s t : List ℕ) (e : drop 32 s ≡ drop 32 t) where
 
 -- ---- the image with other sweeps
 resized : ℕ → Sizes → Sizes
-resized k z = record { nu = z .nu; steps = z .steps; nx = z .nx; b = z .b; w = z .w; sweeps = k }
+resized k z = record { nu = z .nu; steps = z .steps; nx = z .nx; b = z .b; w = z .w; sweeps = k; nr = z .nr }
 
 sound-resized : (k : ℕ) (z : Sizes) → 1 ≤ k → k ≤ 400 → sound z ≡ true → sound (resized k z) ≡ true
 unfolding sound resized
 sound-resized k z h l e =
-    let p = both (between 1 4 (z .nu) && between 1 16 (z .steps) && leb (commandCount z) 16 && between 1 12 (z .nx) && isFormat (z .b) (z .w)) (between 1 400 (z .sweeps)) e in
-    rw (p .0, le-leb 1 k h, le-leb k 400 l)
+    let sizes = between 1 4 (z .nu) && between 1 16 (z .steps) && leb (commandCount z) 16 && between 1 12 (z .nx) && isFormat (z .b) (z .w) in
+    let q = both (sizes && between 1 400 (z .sweeps)) (leb (z .nr) 4) e in
+    let p = both sizes (between 1 400 (z .sweeps)) (q .0) in
+    rw (p .0, le-leb 1 k h, le-leb k 400 l, q .1)
 
 -- nothing but the problem's iterations reads the sweeps
 iterations-only : (k : ℕ) (z : Sizes) (s : List ℕ) → problemAt (resized k z) s ≡ withIterations k (problemAt z s)
@@ -186,9 +194,15 @@ tables-sweeps : (k : ℕ) (z : Sizes) (s : List ℕ) → tablesNumber (resized k
 unfolding resized tablesNumber lowerAt upperAt momentumAt symmetryTest othersAt marginAt totalAt leastMargin largestTotal momentumRange momentumRatio pointTest rowTest problemAt commandAt F rangeP rangeY rangeA rangeB
 tables-sweeps k z s = refl
 
-inputs-kept : (k : ℕ) (z : Sizes) (state : List ℕ) → inputsOf (resized k z) state ≡ inputsOf z state
-unfolding resized inputsOf
-inputs-kept k z state = refl
+values-resized : (k : ℕ) (v : Input) (z : Sizes) (values : List ℕ) → valuesOf v (resized k z) values ≡ valuesOf v z values
+unfolding resized valuesOf
+values-resized k State z values = refl
+values-resized k Target z values = refl
+
+bounds-resized : (k : ℕ) (v : Input) (z : Sizes) (s : List ℕ) → boundsOf v (resized k z) s ≡ boundsOf v z s
+unfolding resized
+bounds-resized k State z s = refl
+bounds-resized k Target z s = refl
 
 start-kept : (k : ℕ) (z : Sizes) (start : List ℕ) → startOf (resized k z) start ≡ startOf z start
 unfolding resized startOf
@@ -237,7 +251,7 @@ module _ (s : List ℕ) (k : ℕ) (long : 32 ≤ length s) (few : k ≤ 400) whe
   sizes-resized : sizesOf (withSweeps k s) ≡ resized k (sizesOf s)
   unfolding sizesOf resized
   sizes-resized =
-      rw (nat-front 0 (omega arith), nat-front 4 (omega arith), nat-front 8 (omega arith), nat-front 12 (omega arith), nat-front 16 (omega arith), nat-sweeps)
+      rw (nat-front 0 (omega arith), nat-front 4 (omega arith), nat-front 8 (omega arith), nat-front 12 (omega arith), nat-front 16 (omega arith), nat-sweeps, nat-behind 0)
 
   problem-resized : problemOf (withSweeps k s) ≡ withIterations k (problemOf s)
   unfolding problemOf
@@ -251,10 +265,9 @@ module _ (s : List ℕ) (k : ℕ) (long : 32 ≤ length s) (few : k ≤ 400) whe
   head-kept one e =
       let p₁ = passed (leb 32 (length s)) 6 _ (lit< tt) e in
       let p₂ = passed (sound (sizesOf s)) 3 _ (lit< tt) (p₁ .1) in
-      let p₃ = passed (eqb (natAt s 24) 0) 3 _ (lit< tt) (p₂ .1) in
-      let p₄ = passed (eqb (natAt s 28) 0) 3 _ (lit< tt) (p₃ .1) in
-      let p₅ = passed (eqb (length s) (4 * (8 + bodyCount (sizesOf s)))) 6 _ (lit< tt) (p₄ .1) in
-      rw (kept-length, p₁ .0, sizes-resized, sound-resized k (sizesOf s) one few (p₂ .0), nat-behind 0, p₃ .0, nat-behind 4, p₄ .0, p₅ .0)
+      let p₃ = passed (eqb (natAt s 28) 0) 3 _ (lit< tt) (p₂ .1) in
+      let p₄ = passed (eqb (length s) (4 * (8 + bodyCount (sizesOf s)))) 6 _ (lit< tt) (p₃ .1) in
+      rw (kept-length, p₁ .0, sizes-resized, sound-resized k (sizesOf s) one few (p₂ .0), nat-behind 4, p₃ .0, p₄ .0)
 
   body-number-kept : bodyNumber (sizesOf (withSweeps k s)) (withSweeps k s) ≡ bodyNumber (sizesOf s) s
   body-number-kept =
@@ -276,27 +289,32 @@ module _ (s : List ℕ) (k : ℕ) (long : 32 ≤ length s) (few : k ≤ 400) whe
       none-of (headNumber (withSweeps k s)) _ (head-kept one (a .0))
       (none-of (bodyNumber (sizesOf (withSweeps k s)) (withSweeps k s)) (tablesNumber (sizesOf (withSweeps k s)) (withSweeps k s)) (body-number-kept ∙ b .0) (tables-number-kept ∙ b .1))
 
-  call-kept : (state start : List ℕ) (room : ℕ) → callNumber (withSweeps k s) state start room ≡ callNumber s state start room
-  unfolding callNumber resized
-  call-kept state start room =
-      rw (sizes-resized, problem-resized, inputs-kept k (sizesOf s) state, start-kept k (sizesOf s) start, inputs-prefix (problemOf s) k (inputsOf (sizesOf s) state), start-prefix (problemOf s) k (startOf (sizesOf s) start))
+  within-kept : (v : Input) (values : List ℕ) → valuesWithin v (resized k (sizesOf s)) (withSweeps k s) values ≡ valuesWithin v (sizesOf s) s values
+  unfolding valuesWithin
+  within-kept v values =
+      rw (bounds-same (resized k (sizesOf s)) (withSweeps k s) s body-kept v, bounds-resized k v (sizesOf s) s, values-resized k v (sizesOf s) values)
 
-  answer-kept : (state start : List ℕ) → solveAnswer (withSweeps k s) state start ≡ answerAfter s state start k
-  unfolding solveAnswer commandsAfter boundsAfter resized inputsOf startOf
-  answer-kept state start =
+  call-kept : (state target start : List ℕ) (room : ℕ) → callNumber (withSweeps k s) state target start room ≡ callNumber s state target start room
+  unfolding callNumber resized
+  call-kept state target start room =
+      rw (sizes-resized, problem-resized, within-kept State state, within-kept Target target, start-kept k (sizesOf s) start, start-prefix (problemOf s) k (startOf (sizesOf s) start))
+
+  answer-kept : (state target start : List ℕ) → solveAnswer (withSweeps k s) state target start ≡ answerAfter s state target start k
+  unfolding solveAnswer commandsAfter boundsAfter resized inputsOf valuesOf startOf
+  answer-kept state target start =
       ap (λ (z : Sizes). out (problemOf (withSweeps k s)) z (z .sweeps)) sizes-resized
       ∙ ap (λ (p : Problem). out p (resized k (sizesOf s)) k) problem-resized
-      ∙ ap (λ (x : Iterate). wordsOut (x .z) ++ wordsOut (map pos (errorAfter (withIterations k (problemOf s)) k .e))) (iterate-prefix (problemOf s) k (inputsOf (sizesOf s) state) (startOf (sizesOf s) start) k)
-      ∙ ap (λ (x : Error). wordsOut (commandsAfter s state start k) ++ wordsOut (map pos (x .e))) (error-prefix (problemOf s) k k)
+      ∙ ap (λ (x : Iterate). wordsOut (x .z) ++ wordsOut (map pos (errorAfter (withIterations k (problemOf s)) k .e))) (iterate-prefix (problemOf s) k (inputsOf (sizesOf s) state target) (startOf (sizesOf s) start) k)
+      ∙ ap (λ (x : Error). wordsOut (commandsAfter s state target start k) ++ wordsOut (map pos (x .e))) (error-prefix (problemOf s) k k)
     where
       out : Problem → Sizes → ℕ → List ℕ
-      out p z j = wordsOut (iterate p (inputsOf z state) (startOf z start) j .z) ++ wordsOut (map pos (errorAfter p j .e))
+      out p z j = wordsOut (iterate p (inputsOf z state target) (startOf z start) j .z) ++ wordsOut (map pos (errorAfter p j .e))
 
 -- the law, for every number of sweeps that an image may have
-pub prefix : (image state start : List ℕ) (room k : ℕ) → imageNumber image ≡ 0 → 1 ≤ k → k ≤ 400 → Prefix image state start room k
+pub prefix : (image state target start : List ℕ) (room k : ℕ) → imageNumber image ≡ 0 → 1 ≤ k → k ≤ 400 → Prefix image state target start room k
 unfolding solveNumber
-prefix image state start room k e one few =
+prefix image state target start room k e one few =
     let w = accepted image e .whole in
     let long : 32 ≤ length image = omega (arith, w .size) in
     let n = number-kept image k long few one e in
-    record { accepted = n; number = rw (n, e) (call-kept image k long few state start room); answer = answer-kept image k long few state start }
+    record { accepted = n; number = rw (n, e) (call-kept image k long few state target start room); answer = answer-kept image k long few state target start }

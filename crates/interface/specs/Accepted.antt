@@ -17,10 +17,11 @@ pub record Accepted (image : List ℕ) : Type 0 where
   pub order : T (ordered (problemOf image))
   pub room : T (headroom (problemOf image))
 
--- 13 and 14 passed too
-pub record Solvable (image state start : List ℕ) : Type 0 where
+-- 13, 16 and 14 passed too
+pub record Solvable (image state target start : List ℕ) : Type 0 where
   pub accepted : Accepted image
   pub state-size : length state ≡ 4 * sizesOf image .nx
-  pub inputs : T (inputsWithin (problemOf image) (inputsOf (sizesOf image) state))
+  pub target-size : length target ≡ 4 * sizesOf image .nr
+  pub inputs : T (inputsWithin (problemOf image) (inputsOf (sizesOf image) state target))
   pub start-size : length start ≡ 4 * commandCount (sizesOf image)
   pub starts : T (startWithin (problemOf image) (startOf (sizesOf image) start))

@@ -1,23 +1,30 @@
 -- The calls on an image: the number of each for every input, and the bytes that it answers. Assumes nothing.
 use Prim.Native.Nat.{ℕ, _*_}
+use mathlib.Core.Bool.{Bool, _&&_}
 use mathlib.Core.List.{List, [], _∷_, _++_, map}
-use lib.Dec.{eqb}
+use lib.Dec.{eqb, leb}
 use lib.ListN.{length}
-use lib.IntN.{ℤ, pos}
+use lib.IntN.{ℤ, pos, natAbs}
 use Rattle.word.specs.Word.{wordsAt, wordsOut}
 use Rattle.gradient.specs.Problem.{coldStart}
 use Rattle.gradient.specs.Scheme.{iterate}
 use Rattle.gradient.specs.Bounds.{errorAfter}
-use Rattle.gradient.specs.Demand.{inputsWithin, startWithin}
+use Rattle.gradient.specs.Demand.{every2, startWithin}
 use Rattle.image.specs.declared.Sizes.{Sizes}
+use Rattle.image.specs.declared.Input.{Input}
+use Rattle.image.specs.declared.Input.the-variants.{State, Target}
 use Rattle.image.specs.Order.{check, firstFault, orElse}
-use Rattle.image.specs.Sizes.{commandCount}
-use Rattle.image.specs.Layout.{sizesOf, problemOf}
+use Rattle.image.specs.Sizes.{commandCount, inputCount}
+use Rattle.image.specs.Layout.{sizesOf, problemOf, boundsOf}
 use Rattle.interface.specs.Tables.{imageNumber}
 
--- "state and start are big-endian words as in the image"
-unfoldable pub inputsOf : Sizes → List ℕ → List ℤ
-inputsOf z state = wordsAt state 0 (z .nx)
+-- "state and start are big-endian words as in the image", and so is a target: the values of an input
+unfoldable pub valuesOf : Input → Sizes → List ℕ → List ℤ
+valuesOf v z values = wordsAt values 0 (inputCount v z)
+
+-- one list of inputs: the state, then the target
+unfoldable pub inputsOf : Sizes → List ℕ → List ℕ → List ℤ
+inputsOf z state target = valuesOf State z state ++ valuesOf Target z target
 
 unfoldable pub startOf : Sizes → List ℕ → List ℤ
 startOf z start = wordsAt start 0 (commandCount z)
@@ -35,34 +42,42 @@ unfoldable pub coldAnswer : List ℕ → List ℕ
 coldAnswer image = wordsOut (coldStart (problemOf image))
 
 -- ---- a solve
--- 13, 14, 15
-unfoldable pub callNumber : List ℕ → List ℕ → List ℕ → ℕ → ℕ
-callNumber image state start room =
+-- no value of an input is "beyond plus or minus its limit"
+unfoldable pub valuesWithin : Input → Sizes → List ℕ → List ℕ → Bool
+valuesWithin v z image values = every2 (λ (x : ℤ) (b : ℕ). leb (natAbs x) b) (valuesOf v z values) (boundsOf v z image)
+
+-- 13 of a state, 16 of a target: "not nx words", or "not nr words", or a value beyond its limit
+abbrev pub inputPasses : Input → Sizes → List ℕ → List ℕ → Bool
+inputPasses v z image values = eqb (length values) (4 * inputCount v z) && valuesWithin v z image values
+
+-- 13, "directly after" it 16, 14, 15
+unfoldable pub callNumber : List ℕ → List ℕ → List ℕ → List ℕ → ℕ → ℕ
+callNumber image state target start room =
     let z = sizesOf image in
     let p = problemOf image in
     firstFault
-    (check 13 (eqb (length state) (4 * z .nx))
-    ∷ check 13 (inputsWithin p (inputsOf z state))
+    (check 13 (inputPasses State z image state)
+    ∷ check 16 (inputPasses Target z image target)
     ∷ check 14 (eqb (length start) (4 * commandCount z))
     ∷ check 14 (startWithin p (startOf z start))
     ∷ check 15 (eqb room (8 * commandCount z))
     ∷ [])
 
--- "a solve is tested 6, 3, 6, 5, then 7 to 15"
-unfoldable pub solveNumber : List ℕ → List ℕ → List ℕ → ℕ → ℕ
-solveNumber image state start room = orElse (imageNumber image) (callNumber image state start room)
+-- "a solve is tested 6, 3, 6, 5, then 7 to 15", with 16 after 13
+unfoldable pub solveNumber : List ℕ → List ℕ → List ℕ → List ℕ → ℕ → ℕ
+solveNumber image state target start room = orElse (imageNumber image) (callNumber image state target start room)
 
 -- the commands and the bounds after k sweeps
-unfoldable pub commandsAfter : List ℕ → List ℕ → List ℕ → ℕ → List ℤ
-commandsAfter image state start k = iterate (problemOf image) (inputsOf (sizesOf image) state) (startOf (sizesOf image) start) k .z
+unfoldable pub commandsAfter : List ℕ → List ℕ → List ℕ → List ℕ → ℕ → List ℤ
+commandsAfter image state target start k = iterate (problemOf image) (inputsOf (sizesOf image) state target) (startOf (sizesOf image) start) k .z
 
 unfoldable pub boundsAfter : List ℕ → ℕ → List ℕ
 boundsAfter image k = errorAfter (problemOf image) k .e
 
 -- the answer of k sweeps: "8n bytes: n commands, then n bounds as unsigned 32-bit words, big-endian too"
-abbrev pub answerAfter : List ℕ → List ℕ → List ℕ → ℕ → List ℕ
-answerAfter image state start k = wordsOut (commandsAfter image state start k) ++ wordsOut (map pos (boundsAfter image k))
+abbrev pub answerAfter : List ℕ → List ℕ → List ℕ → List ℕ → ℕ → List ℕ
+answerAfter image state target start k = wordsOut (commandsAfter image state target start k) ++ wordsOut (map pos (boundsAfter image k))
 
 -- "the answer" of a solve: after the image's own sweeps
-unfoldable pub solveAnswer : List ℕ → List ℕ → List ℕ → List ℕ
-solveAnswer image state start = answerAfter image state start (sizesOf image .sweeps)
+unfoldable pub solveAnswer : List ℕ → List ℕ → List ℕ → List ℕ → List ℕ
+solveAnswer image state target start = answerAfter image state target start (sizesOf image .sweeps)

@@ -16,9 +16,9 @@ use Rattle.interface.specs.Calls.{inputsOf, startOf, answerAfter, solveN
 
 -- the whole claim for "every number of sweeps up to the image's own": after each of them, of the solve so far, the start and the first sweep
 -- among it
-unfoldable pub SolveClaim : List ℕ → List ℕ → List ℕ → Type 0
-SolveClaim image state start =
-    (k : ℕ) → 1 ≤ k → k ≤ sizesOf image .sweeps → Claim (problemOf image) (inputsOf (sizesOf image) state) (startOf (sizesOf image) start) k
+unfoldable pub SolveClaim : List ℕ → List ℕ → List ℕ → List ℕ → Type 0
+SolveClaim image state target start =
+    (k : ℕ) → 1 ≤ k → k ≤ sizesOf image .sweeps → Claim (problemOf image) (inputsOf (sizesOf image) state target) (startOf (sizesOf image) start) k
 
 -- what an answer says: "n commands, then n bounds as unsigned 32-bit words"
 unfoldable pub answeredCommands : ℕ → List ℕ → List ℤ
@@ -29,17 +29,17 @@ answeredBounds n answer = tab (λ (i : ℕ). natAt answer (4 * n + 4 * i)) n
 
 -- the label's sentence, of the bytes of an answer: each command "is inside its limits, and differs from the exact scheme's by at most its
 -- bound"
-pub record Guarantee (image state start answer : List ℕ) : Type 0 where
+pub record Guarantee (image state target start answer : List ℕ) : Type 0 where
   pub limits : All2 Inside (problemOf image .commands) (answeredCommands (commandCount (sizesOf image)) answer)
-  pub distance : Within (exactAfter (problemOf image) (inputsOf (sizesOf image) state) (startOf (sizesOf image) start) (sizesOf image .sweeps)) (answeredCommands (commandCount (sizesOf image)) answer) (answeredBounds (commandCount (sizesOf image)) answer)
+  pub distance : Within (exactAfter (problemOf image) (inputsOf (sizesOf image) state target) (startOf (sizesOf image) start) (sizesOf image .sweeps)) (answeredCommands (commandCount (sizesOf image)) answer) (answeredBounds (commandCount (sizesOf image)) answer)
 
 -- "the same image with s as its sweeps": word 5
 unfoldable pub withSweeps : ℕ → List ℕ → List ℕ
 withSweeps k image = putAt image 20 (bytesOf k)
 
--- "the commands and bounds after sweep s are also what a solve answers for the same state and start and the same image with s as its
--- sweeps": that image is accepted too, a call on it has the same number, and this is its answer
-pub record Prefix (image state start : List ℕ) (room k : ℕ) : Type 0 where
+-- "the commands and bounds after sweep s are also what a solve answers for the same state and start", and target, "and the same image with
+-- s as its sweeps": that image is accepted too, a call on it has the same number, and this is its answer
+pub record Prefix (image state target start : List ℕ) (room k : ℕ) : Type 0 where
   pub accepted : imageNumber (withSweeps k image) ≡ 0
-  pub number : solveNumber (withSweeps k image) state start room ≡ solveNumber image state start room
-  pub answer : solveAnswer (withSweeps k image) state start ≡ answerAfter image state start k
+  pub number : solveNumber (withSweeps k image) state target start room ≡ solveNumber image state target start room
+  pub answer : solveAnswer (withSweeps k image) state target start ≡ answerAfter image state target start k
