@@ -1,4 +1,4 @@
--- Checks 13 and 14 by index, as a loop goes through them. Assumes nothing.
+-- Checks 13, 16 and 14 by index, as a loop goes through them. Assumes nothing.
 use mathlib.Core.Path.{_≡_, ap}
 use mathlib.Core.Bool.{Bool, _&&_}
 use mathlib.Core.List.{List}
@@ -10,25 +10,27 @@ use lib.Signed.{leZ}
 use Rattle.word.specs.Word.{wordAt, wordsAt}
 use Rattle.word.proofs.Words.{length-words-at, getD-words-at}
 use Rattle.gradient.specs.Problem.{Command}
-use Rattle.gradient.specs.Demand.{inputsWithin, startWithin}
+use Rattle.gradient.specs.Demand.{startWithin}
 use Rattle.gradient.specs.Index.{allTo}
 use Rattle.gradient.proofs.Tests.{every2-to}
 use Rattle.image.specs.declared.Sizes.{Sizes}
-use Rattle.image.specs.Sizes.{commandCount}
-use Rattle.image.specs.Layout.{lowerAt, upperAt, boundAt, commandAt, problemAt}
-use Rattle.interface.specs.Calls.{inputsOf, startOf}
-use Rattle.interface.proofs.Accept.{commands-length, command-at, bounds-length, input-bound-at}
+use Rattle.image.specs.declared.Input.{Input}
+use Rattle.image.specs.Sizes.{commandCount, inputCount}
+use Rattle.image.specs.Layout.{lowerAt, upperAt, boundAt, boundsOf, commandAt, problemAt}
+use Rattle.interface.specs.Calls.{valuesOf, valuesWithin, startOf}
+use Rattle.interface.proofs.Accept.{commands-length, command-at, bounds-count, input-bound-at}
 
--- ---- 13: a value of the state, and its limit
-abbrev pub inputTest : Sizes → List ℕ → List ℕ → ℕ → Bool
-inputTest z s state j = leb (natAbs (wordAt state (4 * j))) (natAbs (boundAt z s j))
+-- ---- 13 and 16: a value of an input, and its limit
+abbrev pub valueTest : Input → Sizes → List ℕ → List ℕ → ℕ → Bool
+valueTest v z s values j = leb (natAbs (wordAt values (4 * j))) (natAbs (boundAt v z s j))
 
-pub inputs-to : (z : Sizes) (s state : List ℕ) → inputsWithin (problemAt z s) (inputsOf z state) ≡ allTo (inputTest z s state) (z .nx)
-unfolding inputsWithin inputsOf
-inputs-to z s state =
-    every2-to (λ (x : ℤ) (b : ℕ). leb (natAbs x) b) (wordsAt state 0 (z .nx)) (problemAt z s .inputBounds) (pos 0) 0 (z .nx)
-    (length-words-at state 0 (z .nx)) (bounds-length z s) (inputTest z s state)
-    (λ j l. rw (getD-words-at state 0 (z .nx) j l, input-bound-at z s j l) (ap (λ (k : ℕ). leb (natAbs (wordAt state k)) (natAbs (boundAt z s j))) (omega arith)))
+pub values-to : (v : Input) (z : Sizes) (s values : List ℕ) → valuesWithin v z s values ≡ allTo (valueTest v z s values) (inputCount v z)
+unfolding valuesWithin valuesOf
+values-to v z s values =
+    let n = inputCount v z in
+    every2-to (λ (x : ℤ) (b : ℕ). leb (natAbs x) b) (wordsAt values 0 n) (boundsOf v z s) (pos 0) 0 n
+    (length-words-at values 0 n) (bounds-count z s v) (valueTest v z s values)
+    (λ j l. rw (getD-words-at values 0 n j l, input-bound-at z s v j l) (ap (λ (k : ℕ). leb (natAbs (wordAt values k)) (natAbs (boundAt v z s j))) (omega arith)))
 
 -- ---- 14: a command of the start, and its limits
 abbrev pub startTest : Sizes → List ℕ → List ℕ → ℕ → Bool

@@ -1,30 +1,42 @@
-// The checks of a call, 13 to 15, and the numbers of a solve and of a cold start.
+// The checks of a call, 13 to 16, and the numbers of a solve and of a cold start.
 ghost use mathlib.Core.Path.{_≡_};
 ghost use mathlib.Core.Bool.{_&&_};
 ghost use Prim.Native.Nat.{_*_};
 ghost use lib.ListN.{length};
 ghost use lib.Signed.{leZ};
-ghost use Rattle.gradient.specs.Demand.{inputsWithin, startWithin};
-ghost use Rattle.image.specs.Sizes.{Whole, commandCount};
+ghost use Rattle.gradient.specs.Demand.{startWithin};
+ghost use Rattle.image.specs.Sizes.{Whole, commandCount, inputCount};
 ghost use Rattle.image.specs.Layout.{sizesOf, problemAt, lowerAt, upperAt};
-ghost use Rattle.interface.specs.Calls.{inputsOf, startOf, callNumber, solveNumber, coldNumber};
+ghost use Rattle.interface.specs.Calls.{valuesWithin, inputPasses, startOf, callNumber, solveNumber, coldNumber};
+use image::Input;
 use image::Sizes;
 use magnitudes::size;
 
-// Whether each value of the state is within its limit.
-fn inputs_pass(image: &[u8], z: Sizes, state: &[u8]) -> bool
-    requires { ⌜ Whole z (now image) × (length (now state) ≡ 4 * z .nx) ⌝ }
-    ensures { λ r. ⌜ r ≡ inputsWithin (problemAt z (now (image .entry))) (inputsOf z (now (state .entry))) ⌝ }
+// Whether each value of an input is within its limit.
+fn values_pass(image: &[u8], z: Sizes, v: Input, values: &[u8]) -> bool
+    requires { ⌜ Whole z (now image) × (length (now values) ≡ 4 * inputCount v z) ⌝ }
+    ensures { λ r. ⌜ r ≡ valuesWithin v z (now (image .entry)) (now (values .entry)) ⌝ }
 {
-    let count = z.nx;
+    let count = image::input_count(z, v);
     let mut j = 0;
     while j < count {
-        if size(image::bound_at(image, z, j)) < size(word::word_at(state, 4 * j)) {
+        if size(image::bound_at(image, z, v, j)) < size(word::word_at(values, 4 * j)) {
             return false;
         }
         j += 1;
     }
     true
+}
+
+// Check 13 of a state, 16 of a target.
+pub fn input_passes(image: &[u8], z: Sizes, v: Input, values: &[u8]) -> bool
+    requires { ⌜ Whole z (now image) ⌝ }
+    ensures { λ r. ⌜ r ≡ inputPasses v z (now (image .entry)) (now (values .entry)) ⌝ }
+{
+    if values.len() != 4 * image::input_count(z, v) {
+        return false;
+    }
+    values_pass(image, z, v, values)
 }
 
 // Whether x is within the limits of command k.
@@ -54,18 +66,18 @@ fn start_passes(image: &[u8], z: Sizes, start: &[u8]) -> bool
     true
 }
 
-// Checks 13 to 15, in order.
-pub fn call_number(image: &[u8], state: &[u8], start: &[u8], room: usize) -> u32
+// Checks 13, 16, 14 and 15, in this order.
+pub fn call_number(image: &[u8], state: &[u8], target: &[u8], start: &[u8], room: usize) -> u32
     requires { ⌜ Whole (sizesOf (now image)) (now image) ⌝ }
-    ensures { λ r. ⌜ r ≡ callNumber (now (image .entry)) (now (state .entry)) (now (start .entry)) room ⌝ }
+    ensures { λ r. ⌜ r ≡ callNumber (now (image .entry)) (now (state .entry)) (now (target .entry)) (now (start .entry)) room ⌝ }
 {
     let z = image::sizes_of(image);
     let n = z.nu * z.steps;
-    if state.len() != 4 * z.nx {
+    if !input_passes(image, z, Input::State, state) {
         return 13;
     }
-    if !inputs_pass(image, z, state) {
-        return 13;
+    if !input_passes(image, z, Input::Target, target) {
+        return 16;
     }
     if start.len() != 4 * n {
         return 14;
@@ -77,14 +89,14 @@ pub fn call_number(image: &[u8], state: &[u8], start: &[u8], room: usize) -> u32
 }
 
 // The number of a solve, of an answer of `room` bytes.
-pub fn solve_number(image: &[u8], state: &[u8], start: &[u8], room: usize) -> u32
-    ensures { λ r. ⌜ r ≡ solveNumber (now (image .entry)) (now (state .entry)) (now (start .entry)) room ⌝ }
+pub fn solve_number(image: &[u8], state: &[u8], target: &[u8], start: &[u8], room: usize) -> u32
+    ensures { λ r. ⌜ r ≡ solveNumber (now (image .entry)) (now (state .entry)) (now (target .entry)) (now (start .entry)) room ⌝ }
 {
     let number = tables::image_number(image);
     if number != 0 {
         return number;
     }
-    call_number(image, state, start, room)
+    call_number(image, state, target, start, room)
 }
 
 // The number of a cold start, of an answer of `room` bytes.

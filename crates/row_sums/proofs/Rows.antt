@@ -1,5 +1,5 @@
 -- A row as a part of the image, its terms, and the sums A, B and of the others. Assumes nothing.
-use mathlib.Core.Path.{_≡_, refl, ap, _∙_}
+use mathlib.Core.Path.{_≡_, refl, sym, ap, _∙_}
 use mathlib.Core.List.{List}
 use Prim.Native.Nat.{ℕ, _+_, _*_, _-_, _^_, _≤_, _<_}
 use native.Mathlib.Omega.{arith}
@@ -10,17 +10,21 @@ use borrow.Author.Tests.{leb-true}
 use Rattle.integer.proofs.Tests.{both}
 use Rattle.word.specs.Format.{top}
 use Rattle.word.proofs.Format.{top-high}
+use Rattle.gradient.specs.Vector.{sum}
 use Rattle.gradient.specs.Index.{sumN}
 use Rattle.gradient.specs.Problem.{F}
-use Rattle.gradient.specs.Bounds.{rangeP, rangeY, rangeA, rangeB}
-use Rattle.gradient.proofs.Index.{sumN-cong, rangeA-sum, rangeB-sum, tab-at}
+use Rattle.gradient.specs.Bounds.{ceilTerms, rangeP, rangeY, rangeA, rangeB}
+use Rattle.gradient.proofs.Index.{sumN-cong, ceilTerms-sum, rangeA-sum, tab-at}
+use Rattle.gradient.proofs.Append.{ceilTerms-append}
 use Rattle.gradient.proofs.Tests.{all-at}
 use Rattle.image.specs.declared.Sizes.{Sizes}
-use Rattle.image.specs.Sizes.{commandCount, Sound}
-use Rattle.image.specs.Layout.{costOffset, gainOffset, entryAt, commandAt, problemAt}
-use Rattle.image.proofs.Sized.{row-end}
+use Rattle.image.specs.declared.Input.{Input}
+use Rattle.image.specs.declared.Input.the-variants.{State, Target}
+use Rattle.image.specs.Sizes.{commandCount, inputCount, Sound}
+use Rattle.image.specs.Layout.{costOffset, gainOffset, entryAt, gainsOf, boundsOf, commandAt, problemAt}
+use Rattle.image.proofs.Sized.{input-most, row-end}
 use Rattle.interface.specs.Tables.{pointTest, othersAt}
-use Rattle.interface.proofs.Accept.{commands-length, command-at, bounds-length, input-bound-at, row-length, gains-length, gain-at}
+use Rattle.interface.proofs.Accept.{commands-length, command-at, bounds-count, input-bound-at, row-length, gains-count, gain-at}
 use Rattle.row_sums.specs.Terms.{termAt, termRow, termCount, termMost, PointsPass, TermsReady}
 use Rattle.row_sums.specs.declared.Term.{Term}
 use Rattle.row_sums.specs.declared.Term.the-variants.{Other, Range, GainRange}
@@ -33,21 +37,23 @@ term-end Other z s row i j r h =
     omega (arith, ap length (r .part), length-drop (costOffset z i) s, r .whole .size, row-end i (commandCount z) (commandCount z) (r .index))
 term-end Range z s row i j r h =
     omega (arith, ap length (r .part), length-drop (costOffset z i) s, r .whole .size, row-end i (commandCount z) (commandCount z) (r .index))
-term-end GainRange z s row i j r h =
-    omega (arith, ap length (r .part), length-drop (gainOffset z i) s, r .whole .size, row-end i (commandCount z) (z .nx) (r .index))
+term-end (GainRange State) z s row i j r h =
+    omega (arith, ap length (r .part), length-drop (gainOffset State z i) s, r .whole .size, row-end i (commandCount z) (z .nx) (r .index))
+term-end (GainRange Target) z s row i j r h =
+    omega (arith, ap length (r .part), length-drop (gainOffset Target z i) s, r .whole .size, row-end i (commandCount z) (z .nr) (r .index))
 
 -- ---- how many terms, how large they are, and how large their sum
 pub count-most : (t : Term) (z : Sizes) → Sound z → termCount t z ≤ 16
 unfolding termCount
 count-most Other z h = h .n-high
 count-most Range z h = h .n-high
-count-most GainRange z h = omega (arith, h .nx-high)
+count-most (GainRange v) z h = omega (arith, input-most v z h)
 
 pub sum-most : (t : Term) (j : ℕ) → j < 16 → j * termMost t + termMost t ≤ 2 ^ 62 + 2 ^ 52
 unfolding termMost
 sum-most Other j h = omega arith
 sum-most Range j h = omega arith
-sum-most GainRange j h = omega arith
+sum-most (GainRange v) j h = omega arith
 
 -- Y is in the word
 pub point-most : (z : Sizes) (s : List ℕ) (j : ℕ) → Sound z → PointsPass z s → j < commandCount z → rangeY (problemAt z s) (commandAt z s j) ≤ 2 ^ 31
@@ -78,8 +84,15 @@ module _ (z : Sizes) (s : List ℕ) (i : ℕ) where
       rangeA-sum (problemAt z s) (commandAt z s i) (commandAt z s i) (commandCount z) (commands-length z s) (row-length z s i)
       ∙ sumN-cong _ _ (commandCount z) (λ j l. rw (entry-is j l, command-at z s (commandAt z s i) j l, F-is))
 
-  pub gain-terms : rangeB (problemAt z s) (commandAt z s i) ≡ sumN (termAt GainRange z s i) (z .nx)
+  -- the part of B that an input adds, and B
+  input-terms : (v : Input) → sum (ceilTerms (2 ^ z .b) (gainsOf v z s i) (boundsOf v z s)) ≡ sumN (termAt (GainRange v) z s i) (inputCount v z)
   unfolding termAt
+  input-terms v =
+      ceilTerms-sum (2 ^ z .b) (gainsOf v z s i) (boundsOf v z s) (inputCount v z) (gains-count z s v i) (bounds-count z s v)
+      ∙ sumN-cong _ _ (inputCount v z) (λ j l. rw (gain-at z s v i j l, input-bound-at z s v j l))
+
+  pub gain-terms : rangeB (problemAt z s) (commandAt z s i) ≡ sumN (termAt (GainRange State) z s i) (z .nx) + sumN (termAt (GainRange Target) z s i) (z .nr)
+  unfolding rangeB F problemAt commandAt
   gain-terms =
-      rangeB-sum (problemAt z s) (commandAt z s i) (z .nx) (bounds-length z s) (gains-length z s i)
-      ∙ sumN-cong _ _ (z .nx) (λ j l. rw (gain-at z s i j l, input-bound-at z s j l, F-is))
+      ceilTerms-append (2 ^ z .b) (gainsOf State z s i) (gainsOf Target z s i) (boundsOf State z s) (boundsOf Target z s) (gains-count z s State i ∙ sym (bounds-count z s State))
+      ∙ rw (input-terms State, input-terms Target)

@@ -10,36 +10,36 @@ use Rattle.integer.specs.Round.{ceil}
 use Rattle.gradient.specs.Bounds.{rangeY}
 use Rattle.gradient.specs.Index.{allTo}
 use Rattle.image.specs.declared.Sizes.{Sizes}
-use Rattle.image.specs.Sizes.{Whole, commandCount}
+use Rattle.image.specs.Sizes.{Whole, commandCount, inputCount}
 use Rattle.image.specs.Layout.{costRow, gainRow, costAt, gainAt, boundAt, entryAt, commandAt, problemAt}
 use Rattle.interface.specs.Tables.{pointTest}
 use Rattle.row_sums.specs.declared.Term.{Term}
 use Rattle.row_sums.specs.declared.Term.the-variants.{Other, Range, GainRange}
 
--- term j of row i: a magnitude off the diagonal, "|M| × Y / 2^b", "|Φ| × state limit / 2^b"
+-- term j of row i: a magnitude off the diagonal, "|M| × Y / 2^b", "|Φ| × state limit / 2^b" or the target's
 unfoldable pub termAt : Term → Sizes → List ℕ → ℕ → ℕ → ℕ
 termAt Other z s i j = cond (eqb i j) 0 (natAbs (costAt z s i j))
 termAt Range z s i j = ceil (natAbs (entryAt z s i j) * rangeY (problemAt z s) (commandAt z s j)) (2 ^ z .b)
-termAt GainRange z s i j = ceil (natAbs (gainAt z s i j) * natAbs (boundAt z s j)) (2 ^ z .b)
+termAt (GainRange v) z s i j = ceil (natAbs (gainAt v z s i j) * natAbs (boundAt v z s j)) (2 ^ z .b)
 
 -- the row of the image that the terms are of, and how many they are
 unfoldable pub termRow : Term → Sizes → List ℕ → ℕ → List ℕ
 termRow Other z s i = costRow z s i
 termRow Range z s i = costRow z s i
-termRow GainRange z s i = gainRow z s i
+termRow (GainRange v) z s i = gainRow v z s i
 
 unfoldable pub termCount : Term → Sizes → ℕ
 termCount Other z = commandCount z
 termCount Range z = commandCount z
-termCount GainRange z = z .nx
+termCount (GainRange v) z = inputCount v z
 
 -- how large a term is: a magnitude of a word; a product of two, less b ≥ 4 bits
 unfoldable pub termMost : Term → ℕ
 termMost Other = 2 ^ 31
 termMost Range = 2 ^ 58 + 2 ^ 48
-termMost GainRange = 2 ^ 58 + 2 ^ 48
+termMost (GainRange v) = 2 ^ 58 + 2 ^ 48
 
--- an entry of M or Φ times a bound in the word: the product fits 64 bits
+-- an entry of M or of the gains times a bound in the word: the product fits 64 bits
 pub record Scalable (a : ℤ) (x b : ℕ) : Type 0 where
   pub factor : natAbs a ≤ 2 ^ 31 + 2 ^ 20
   pub most : x ≤ 2 ^ 31
@@ -54,7 +54,7 @@ PointsPass z s = allTo (pointTest z s) (commandCount z) ≡ true
 unfoldable pub TermRoom : Term → Sizes → List ℕ → Type 0
 TermRoom Other z s = Unit {0}
 TermRoom Range z s = PointsPass z s
-TermRoom GainRange z s = Unit {0}
+TermRoom (GainRange v) z s = Unit {0}
 
 pub record TermsReady (t : Term) (z : Sizes) (s row : List ℕ) (i : ℕ) : Type 0 where
   pub whole : Whole z s

@@ -9,13 +9,14 @@ ghost use Rattle.integer.specs.Round.{ceil};
 ghost use Rattle.word.specs.Word.{wordAt};
 ghost use Rattle.gradient.specs.Index.{sumN};
 ghost use Rattle.row_sums.specs.Terms.{termAt, termCount, termMost, Scalable, TermsReady};
+use image::Input;
 use image::Sizes;
 
-// A term of a row's sum: of the others in 9 and 10, of A and of B.
+// A term of a row's sum: of the others in 9 and 10, of A, and of B for the state and for the target.
 pub enum Term {
     Other,
     Range,
-    GainRange,
+    GainRange(Input),
 }
 
 // |a| × x / 2^b, rounded up.
@@ -49,8 +50,8 @@ fn term_at(image: &[u8], row: &[u8], z: Sizes, t: Term, i: usize, j: usize) -> u
             magnitudes::range_y(image, z, j),
             z.b,
         ),
-        Term::GainRange => {
-            let bound = magnitudes::size(image::bound_at(image, z, j));
+        Term::GainRange(v) => {
+            let bound = magnitudes::size(image::bound_at(image, z, v, j));
             scaled(word::word_at(row, 4 * j), bound, z.b)
         }
     }

@@ -6,32 +6,33 @@ use Prim.Native.Nat.{_*_}
 use lib.Dec.{eqb}
 use lib.ListN.{length}
 use borrow.Author.Tests.{eq-eqb, ne-eqb, not-true, not-false}
-use Rattle.gradient.specs.Demand.{inputsWithin, startWithin}
+use Rattle.gradient.specs.Demand.{startWithin}
 use Rattle.image.specs.declared.Sizes.{Sizes}
+use Rattle.image.specs.declared.Input.the-variants.{State, Target}
 use Rattle.image.specs.Sizes.{Whole, commandCount}
 use Rattle.image.specs.Layout.{problemAt, problemOf}
-use Rattle.interface.specs.Calls.{inputsOf, startOf, callNumber}
+use Rattle.interface.specs.Calls.{inputPasses, startOf, callNumber}
 use borrow.Author.Needs.{needs}
 use Rattle.interface.proofs.Accept.{whole-of}
 use Rattle.calls.proofs.call_number.Statement.{statement}
 use Rattle.calls.proofs.call_number.Tie as tie
 
--- the sizes, the image and the two buffers, from the place where the sizes are read
+-- the sizes, the image and the tests of the buffers, from the place where the sizes are read
 module _ (c : tie.After-sizes-of) where
   abbrev z : Sizes
   z = c .sizes-of .result
 
   abbrev a : tie.Start
-  a = c .before .before .before .before
+  a = c .before .before .before .before .before
 
   whole : Whole z (a .args .image .now)
   whole = whole-of (c .sizes-of .ensures) (a .pre)
 
-  abbrev state-size : Bool
-  state-size = eqb (length (a .args .state .now)) (4 * z .nx)
+  abbrev state-passes : Bool
+  state-passes = inputPasses State z (a .args .image .now) (a .args .state .now)
 
-  abbrev state-within : Bool
-  state-within = inputsWithin (problemAt z (a .args .image .now)) (inputsOf z (a .args .state .now))
+  abbrev target-passes : Bool
+  target-passes = inputPasses Target z (a .args .image .now) (a .args .target .now)
 
   abbrev start-size : Bool
   start-size = eqb (length (a .args .start .now)) (4 * commandCount z)
@@ -52,11 +53,11 @@ abbrev at4 : tie.Else4 → tie.After-sizes-of
 at4 c = at3 (c .before .before)
 
 -- the tests that have passed at a place
-pass1 : (c : tie.Else1) → state-size (at1 c) ≡ true
-pass1 c = eq-eqb _ _ (c .if1 .left)
+pass1 : (c : tie.Else1) → state-passes (at1 c) ≡ true
+pass1 c = sym (c .before .input-passes .ensures) ∙ not-false _ (c .if1 .left)
 
-pass2 : (c : tie.Else2) → state-within (at2 c) ≡ true
-pass2 c = sym (c .before .inputs-pass .ensures) ∙ not-false _ (c .if2 .left)
+pass2 : (c : tie.Else2) → target-passes (at2 c) ≡ true
+pass2 c = sym (c .before .input-passes2 .ensures) ∙ not-false _ (c .if2 .left)
 
 pass3 : (c : tie.Else3) → start-size (at3 c) ≡ true
 pass3 c = eq-eqb _ _ (c .if3 .left)
@@ -70,23 +71,23 @@ sizes-of-requires c κs = search needs
 mul-n : tie.Need-mul-n
 mul-n c = omega (arith, whole (c .before) .sizes .n-high)
 
-mul-if1 : tie.Need-mul-if1
-mul-if1 c = omega (arith, whole (c .before .before) .sizes .nx-high)
+input-passes-requires : tie.Need-input-passes-requires
+input-passes-requires c κs = whole (c .before)
 
 returns : tie.Need-returns
 unfolding callNumber problemOf
 returns c =
     let d = c .before .before .before in
-    rw (← (d .sizes-of .ensures), ne-eqb (length (a d .args .state .now)) (4 * z d .nx) (c .if1 .taken))
+    rw (← (d .sizes-of .ensures), sym (c .before .input-passes .ensures) ∙ not-true _ (c .if1 .taken))
 
-inputs-pass-requires : tie.Need-inputs-pass-requires
-inputs-pass-requires c κs = (whole (at1 c), c .if1 .left)
+input-passes-requires-2 : tie.Need-input-passes-requires-2
+input-passes-requires-2 c κs = whole (at1 c)
 
 returns-2 : tie.Need-returns-2
 unfolding callNumber problemOf
 returns-2 c =
     let d = at1 (c .before .before) in
-    rw (← (d .sizes-of .ensures), pass1 (c .before .before), sym (c .before .inputs-pass .ensures) ∙ not-true _ (c .if2 .taken))
+    rw (← (d .sizes-of .ensures), pass1 (c .before .before), sym (c .before .input-passes2 .ensures) ∙ not-true _ (c .if2 .taken))
 
 mul-if3 : tie.Need-mul-if3
 mul-if3 c = omega (arith, whole (at2 c) .sizes .n-high)
@@ -131,9 +132,9 @@ call-number-spec =
     (tie.spec
     sizes-of-requires
     mul-n
-    mul-if1
+    input-passes-requires
     returns
-    inputs-pass-requires
+    input-passes-requires-2
     returns-2
     mul-if3
     returns-3

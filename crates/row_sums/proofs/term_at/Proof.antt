@@ -33,8 +33,8 @@ other-ready c = rw (c .enum-told .given .1) at (c .before .before .before .befor
 range-ready : (c : tie.After-enum-told2) → Ready Range (c .before .before .before .before)
 range-ready c = rw (c .enum-told2 .given .1) at (c .before .before .before .before .pre)
 
-gain-ready : (c : tie.After-enum-told3) → Ready GainRange (c .before .before .before .before)
-gain-ready c = rw (c .enum-told3 .given .1) at (c .before .before .before .before .pre)
+gain-ready : (c : tie.After-known-told) → Ready (GainRange (c .before .t .given .0 .0)) (c .before .before .before .before .before)
+gain-ready c = rw (c .before .t .given .1) at (c .before .before .before .before .before .pre)
 
 enum-told : tie.Need-enum-told
 enum-told c = search needs
@@ -65,8 +65,8 @@ scaled-requires c κs =
       b-high = r .0 .whole .sizes .b-high;
     })
 
-enum-told-3 : tie.Need-enum-told-3
-enum-told-3 c = search needs
+enum-known-t : tie.Need-enum-known-t
+enum-known-t c = search needs
 
 bound-at-requires : tie.Need-bound-at-requires
 unfolding termCount
@@ -78,15 +78,15 @@ size-requires : tie.Need-size-requires
 size-requires c κs = search needs
 
 mul-word-at : tie.Need-mul-word-at
-mul-word-at c = omega (arith, long (c .before .before .before .before .before .before))
+mul-word-at c = omega (arith, long (c .before .before .before .before .before .before .before))
 
 word-at-requires : tie.Need-word-at-requires
-word-at-requires c κs = long (c .before .before .before .before .before .before)
+word-at-requires c κs = long (c .before .before .before .before .before .before .before)
 
 scaled-requires-2 : tie.Need-scaled-requires-2
 scaled-requires-2 c κs =
     let w = c .word-at in
-    let a = c .before .before .before .before .before .before .before in
+    let a = c .before .before .before .before .before .before .before .before in
     rw (back (w .result) (w .ok)) (record {
       factor = omega (arith, natAbs-le (w .result) (w .ensures .1 .sfits));
       most = c .before .size .ensures .1;
@@ -115,13 +115,13 @@ returns-3 : tie.Need-returns-3
 unfolding termAt termMost termRow
 returns-3 c =
     let d = c .before .before .before .before in
-    let a = d .before .before .before .before .args in
+    let a = d .before .before .before .before .before .args in
     let w = c .before .word-at in
     let b = c .before .before .before .bound-at in
-    let e : w .result ≡ gainAt (a .z) (a .image .now) (a .i) (a .j) = w .ensures .0 ∙ ap (λ (l : List ℕ). wordAt l (4 * a .j)) (gain-ready d .0 .part) in
+    let e : w .result ≡ gainAt (d .before .t .given .0 .0) (a .z) (a .image .now) (a .i) (a .j) = w .ensures .0 ∙ ap (λ (l : List ℕ). wordAt l (4 * a .j)) (gain-ready d .0 .part) in
     let q = rw (back (w .result) (w .ok)) at (c .scaled2 .ensures .0) in
     let m = rw (back (b .result) (b .ok)) at (c .before .before .size .ensures .0) in
-    rw (d .enum-told3 .given .1) (cc (q, e, m, b .ensures .0), c .scaled2 .ensures .1)
+    rw (d .before .t .given .1) (cc (q, e, m, b .ensures .0), c .scaled2 .ensures .1)
 
 pub term-at-spec : {M : Type 1} → statement M
 term-at-spec =
@@ -133,7 +133,7 @@ term-at-spec =
     entry-requires
     range-y-requires
     scaled-requires
-    enum-told-3
+    enum-known-t
     bound-at-requires
     size-requires
     mul-word-at
