@@ -1,8 +1,7 @@
 -- What an image's tables are as arrays. Assumes nothing.
 use mathlib.Core.Path.{_≡_}
 use mathlib.Core.List.{List}
-use Prim.Native.Nat.{ℕ, _*_, _^_, _≤_, _<_, max}
-use lib.ListN.{getD}
+use Prim.Native.Nat.{ℕ, _+_, max}
 use lib.IntN.{ℤ, pos, natAbs}
 use Rattle.gradient.specs.Scheme.{linear}
 use Rattle.gradient.specs.Bounds.{width}
@@ -14,9 +13,9 @@ use Rattle.array.specs.Arrays.{Filled}
 use Rattle.rows.specs.declared.Terms.{Terms}
 use Rattle.loading.specs.declared.Limits.{Limits}
 
--- "h = Φ times the state" at command i, and w
-abbrev pub linearAt : Sizes → List ℕ → List ℕ → ℕ → ℤ
-linearAt z image state i = linear (problemAt z image) (inputsOf z state) (commandAt z image i)
+-- "h = Φ times the state", with the "target products", at command i, and w
+abbrev pub linearAt : Sizes → List ℕ → List ℕ → List ℕ → ℕ → ℤ
+linearAt z image state target i = linear (problemAt z image) (inputsOf z state target) (commandAt z image i)
 
 abbrev pub widthAt : Sizes → List ℕ → ℕ → ℕ
 widthAt z image i = width (commandAt z image i)
@@ -27,18 +26,13 @@ pub record LimitsOf (z : Sizes) (image : List ℕ) (r : Limits) : Type 0 where
   pub uppers : Filled (pos 0) (commandCount z) (upperAt z image) (r .upper)
   pub widths : Filled 0 (commandCount z) (widthAt z image) (r .width)
 
--- the linear term, and no larger than 12 terms are
-pub record LinearOf (z : Sizes) (image state : List ℕ) (r : List ℤ) : Type 0 where
-  pub linears : Filled (pos 0) (commandCount z) (linearAt z image state) r
-  pub small : (i : ℕ) → i < commandCount z → natAbs (getD r i (pos 0)) ≤ 12 * 2 ^ 58
-
 -- all that stays the same over the iterations, but for M
-pub record TermsOf (z : Sizes) (image state : List ℕ) (t : Terms) : Type 0 where
+pub record TermsOf (z : Sizes) (image state target : List ℕ) (t : Terms) : Type 0 where
   pub lowers : Filled (pos 0) (commandCount z) (lowerAt z image) (t .lower)
   pub uppers : Filled (pos 0) (commandCount z) (upperAt z image) (t .upper)
   pub widths : Filled 0 (commandCount z) (widthAt z image) (t .width)
-  pub linear-of : LinearOf z image state (t .linear)
+  pub linears : Filled (pos 0) (commandCount z) (linearAt z image state target) (t .linear)
   pub momentum-is : t .momentum ≡ natAbs (momentumAt z image)
-  pub slack-is : t .slack ≡ max (commandCount z) (z .nx)
+  pub slack-is : t .slack ≡ max (commandCount z) (z .nx + z .nr)
   pub n-is : t .n ≡ commandCount z
   pub b-is : t .b ≡ z .b

@@ -1,12 +1,14 @@
 // The tables of an accepted image as arrays: M, and all else that stays the same over the iterations of a solve.
 ghost use mathlib.Core.Path.{_≡_};
-ghost use Prim.Native.Nat.{_*_, _≤_, max};
+ghost use Prim.Native.Nat.{_*_, _≤_, _<_, max};
 ghost use lib.ListN.{length};
 ghost use lib.IntN.{pos};
-ghost use Rattle.image.specs.Sizes.{Whole, commandCount};
-ghost use Rattle.image.specs.Layout.{entryOf, entryAt};
-ghost use Rattle.array.specs.Arrays.{Filled, Tabled};
-ghost use Rattle.loading.specs.Tables.{LimitsOf, LinearOf, TermsOf};
+ghost use Rattle.image.specs.Sizes.{Whole, commandCount, inputCount};
+ghost use Rattle.image.specs.Layout.{gainRow, entryOf, entryAt};
+ghost use Rattle.array.specs.Arrays.{Filled, Tabled, WordsTo};
+ghost use Rattle.dot.specs.Sums.{inputTerm, Sums};
+ghost use Rattle.loading.specs.Tables.{linearAt, LimitsOf, TermsOf};
+use image::Input;
 use image::Sizes;
 use rows::Terms;
 
@@ -73,18 +75,28 @@ fn limits_of(image: &[u8], z: Sizes) -> Limits
     }
 }
 
+// Row i of an input's table times its values x.
+fn gain_sum(image: &[u8], x: &[i64; 16], z: Sizes, v: Input, i: usize) -> i64
+    requires { ⌜ (Whole z (now image) × (i < commandCount z)) × WordsTo (inputCount v z) (now x) ⌝ }
+    ensures { λ r. ⌜ Sums (inputTerm (gainRow v z (now (image .entry)) i) (now (x .entry)) (z .b)) 0 (inputCount v z) r ⌝ }
+{
+    let at = image::gain_offset(z, v, i);
+    let count = image::input_count(z, v);
+    dot::row_sum(&image[at..], x, count, z.b)
+}
+
 // The linear term of each command.
-fn linear_terms(image: &[u8], state: &[u8], z: Sizes) -> [i64; 16]
-    requires { ⌜ Whole z (now image) × (length (now state) ≡ 4 * z .nx) ⌝ }
-    ensures { λ r. ⌜ LinearOf z (now (image .entry)) (now (state .entry)) r ⌝ }
+fn linear_terms(image: &[u8], state: &[u8], target: &[u8], z: Sizes) -> [i64; 16]
+    requires { ⌜ Whole z (now image) × ((length (now state) ≡ 4 * z .nx) × (length (now target) ≡ 4 * z .nr)) ⌝ }
+    ensures { λ r. ⌜ Filled (pos 0) (commandCount z) (linearAt z (now (image .entry)) (now (state .entry)) (now (target .entry))) r ⌝ }
 {
     let n = z.nu * z.steps;
     let x = array::words_of(state, z.nx);
+    let y = array::words_of(target, z.nr);
     let mut r = array::blank();
     let mut i = 0;
     while i < n {
-        let at = image::gain_offset(z, i);
-        r[i] = dot::row_sum(&image[at..], &x, z.nx, z.b);
+        r[i] = gain_sum(image, &x, z, Input::State, i) + gain_sum(image, &y, z, Input::Target, i);
         i += 1;
     }
     r
@@ -101,18 +113,18 @@ fn larger(a: usize, b: usize) -> u64
 }
 
 // All that stays the same over the iterations, but for M.
-pub fn terms_of(image: &[u8], state: &[u8], z: Sizes) -> Terms
-    requires { ⌜ Whole z (now image) × (length (now state) ≡ 4 * z .nx) ⌝ }
-    ensures { λ r. ⌜ TermsOf z (now (image .entry)) (now (state .entry)) r ⌝ }
+pub fn terms_of(image: &[u8], state: &[u8], target: &[u8], z: Sizes) -> Terms
+    requires { ⌜ Whole z (now image) × ((length (now state) ≡ 4 * z .nx) × (length (now target) ≡ 4 * z .nr)) ⌝ }
+    ensures { λ r. ⌜ TermsOf z (now (image .entry)) (now (state .entry)) (now (target .entry)) r ⌝ }
 {
     let n = z.nu * z.steps;
     let l = limits_of(image, z);
     let lower = l.lower;
     let upper = l.upper;
     let width = l.width;
-    let linear = linear_terms(image, state, z);
+    let linear = linear_terms(image, state, target, z);
     let momentum = integer::magnitude(image::momentum_at(image, z));
-    let slack = larger(n, z.nx);
+    let slack = larger(n, z.nx + z.nr);
     Terms {
         lower,
         upper,

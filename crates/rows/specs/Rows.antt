@@ -1,8 +1,8 @@
 -- What the rows of M give an iteration: what each element becomes, and what that asks. Assumes nothing.
 use mathlib.Core.List.{List, []}
-use Prim.Native.Nat.{ℕ, _+_, _*_, _^_, _≤_, _<_, min}
+use Prim.Native.Nat.{ℕ, _+_, _^_, _≤_, _<_, min}
 use lib.ListN.{getD}
-use lib.IntN.{ℤ, pos, natAbs, _-ℤ_}
+use lib.IntN.{ℤ, pos, _-ℤ_}
 use Rattle.integer.specs.Round.{ceil, clamp}
 use Rattle.gradient.specs.Index.{sumZ}
 use Rattle.array.specs.Arrays.{Filled, WordsTo, NatsTo}
@@ -31,7 +31,7 @@ pub record Fitting (t : Terms) : Type 0 where
   pub slack-most : t .slack ≤ 16
   pub lowers : WordsTo (t .n) (t .lower)
   pub uppers : WordsTo (t .n) (t .upper)
-  pub linears : (i : ℕ) → i < t .n → natAbs (getD (t .linear) i (pos 0)) ≤ 12 * 2 ^ 58
+  pub linears : WordsTo (t .n) (t .linear)
   pub widths : NatsTo (t .n) (t .width)
 
 -- each row's sum of |M| × q

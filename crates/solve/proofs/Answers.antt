@@ -31,28 +31,28 @@ pub behind : (x y s : List ℕ) (at k : ℕ) → length x ≡ at → length s �
 behind x y s at k e h = rw (take-at x s at e, drop-at x s at e, drop-of-length-le s {i = k} h, append-nil y)
 
 -- what a solve answers, as the arrays hold it
-module _ {image state start : List ℕ} (ok : Solvable image state start) (k : ℕ) where
+module _ {image state target start : List ℕ} (ok : Solvable image state target start) (k : ℕ) where
   starts : length (startOf (sizesOf image) start) ≡ length (problemOf image .commands)
   starts = start-length (problemOf image) (startOf (sizesOf image) start) (ok .starts)
 
-  commands-length : length (commandsAfter image state start k) ≡ commandCount (sizesOf image)
+  commands-length : length (commandsAfter image state target start k) ≡ commandCount (sizesOf image)
   unfolding commandsAfter
-  commands-length = iterate-z-length (problemOf image) (inputsOf (sizesOf image) state) (startOf (sizesOf image) start) starts k ∙ count-is image
+  commands-length = iterate-z-length (problemOf image) (inputsOf (sizesOf image) state target) (startOf (sizesOf image) start) starts k ∙ count-is image
 
-  pub commands-fit : Words (commandsAfter image state start k)
+  pub commands-fit : Words (commandsAfter image state target start k)
   unfolding commandsAfter Demand3
   commands-fit i h =
       word-fits (problemOf image) (ok .accepted .sized) _
-      (all1-at (demand3 (problemOf image) (inputsOf (sizesOf image) state) (startOf (sizesOf image) start) (ok .accepted .order) (ok .accepted .room) (ok .inputs) (ok .starts) k .inRange k (omega arith) .z-word) (pos 0) i h)
+      (all1-at (demand3 (problemOf image) (inputsOf (sizesOf image) state target) (startOf (sizesOf image) start) (ok .accepted .order) (ok .accepted .room) (ok .inputs) (ok .starts) k .inRange k (omega arith) .z-word) (pos 0) i h)
 
-  module _ (s : State) (at : ReachedOf image state start k s) (n : ℕ) (e : n ≡ commandCount (sizesOf image)) where
+  module _ (s : State) (at : ReachedOf image state target start k s) (n : ℕ) (e : n ≡ commandCount (sizesOf image)) where
     pub few : n ≤ 16
     few = omega (arith, ok .accepted .whole .sizes .n-high)
 
-    pub commands-are : take n (s .z) ≡ commandsAfter image state start k
+    pub commands-are : take n (s .z) ≡ commandsAfter image state target start k
     unfolding commandsAfter
     commands-are =
-        taken (pos 0) (s .z) (commandsAfter image state start k) n (omega (arith, few, at .at-z .sized)) (commands-length ∙ sym e)
+        taken (pos 0) (s .z) (commandsAfter image state target start k) n (omega (arith, few, at .at-z .sized)) (commands-length ∙ sym e)
         (λ i h. at .at-z .each i (omega (arith, count-is image)))
 
     pub bounds-are : take n (s .e) ≡ boundsAfter image k

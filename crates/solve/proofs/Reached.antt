@@ -14,9 +14,9 @@ use Rattle.word.specs.Format.{top}
 use Rattle.gradient.specs.Problem.{Command, Problem, F}
 use Rattle.gradient.specs.Scheme.{Iterate, linear, nextZ, nextY, iterate}
 use Rattle.gradient.specs.Bounds.{Error, slack, weight, nextE, nextQ, errorAfter, rangeA}
-use Rattle.gradient.specs.Demand.{ordered, headroom, inputsWithin, startWithin, InRange, Demand3}
+use Rattle.gradient.specs.Demand.{ordered, headroom, inputsWithin, startWithin, InWord, InRange, Demand3}
 use Rattle.gradient.specs.Sizes.{SizedCommand, Sized}
-use Rattle.gradient.proofs.Index.{sumZ-cong, sumN-cong, unclamped-sum, weight-sum, step-z-at, step-y-at, errorStep-e-at, errorStep-q-at, all1-at, map-at}
+use Rattle.gradient.proofs.Index.{sumZ-cong, sumN-cong, linear-word, unclamped-sum, weight-sum, step-z-at, step-y-at, errorStep-e-at, errorStep-q-at, all1-at, map-at}
 use Rattle.gradient.proofs.Lengths.{iterate-z-length, iterate-y-length, error-e-length, error-q-length}
 use Rattle.gradient.proofs.Tests.{headroom-at, start-length}
 use Rattle.gradient.proofs.Demand.{demand3}
@@ -45,6 +45,13 @@ module _ {p : Problem} {inputs start : List ℤ} {m : List (List ℤ)} {t : Term
   of-command : (i : ℕ) → i < length (p .commands) → SizedCommand p (command p i)
   of-command i h = all1-at (chk .sized .commands-sized) nothing i h
 
+  -- the linear term is a running sum, so demand 3 says that it is a word
+  linear-fits : (i : ℕ) → i < length (p .commands) → InWord p (linear p inputs (command p i))
+  unfolding Demand3
+  linear-fits i h =
+      let claim = demand3 p inputs start (chk .order) (chk .room) (chk .inputs-in) (chk .starts-in) 0 in
+      linear-word p inputs (command p i) (all1-at (claim .inRange 0 (omega arith) .linear-sums) nothing i h)
+
   fitting : Fitting t
   unfolding slack
   fitting =
@@ -58,7 +65,7 @@ module _ {p : Problem} {inputs start : List ℤ} {m : List (List ℤ)} {t : Term
         slack-most = omega (arith, rep .slack-is, s .commands-most, s .inputs-most);
         lowers = λ i h. let l : i < length (p .commands) = omega arith in rw (rep .lowers i l) (le-trans (word-abs p s _ (of-command i l .lower-word)) (omega arith));
         uppers = λ i h. let l : i < length (p .commands) = omega arith in rw (rep .uppers i l) (le-trans (word-abs p s _ (of-command i l .upper-word)) (omega arith));
-        linears = λ i h. rep .small i (omega arith);
+        linears = λ i h. let l : i < length (p .commands) = omega arith in rw (rep .linears i l) (le-trans (word-abs p s _ (linear-fits i l)) (omega arith));
         widths = λ i h. let l : i < length (p .commands) = omega arith in rw (rep .widths i l) (width-fits p s (command p i) (of-command i l));
       }
 
@@ -154,13 +161,13 @@ module _ {p : Problem} {inputs start : List ℤ} {m : List (List ℤ)} {t : Term
       }
 
 -- ---- on an image
-pub checked : {image state start : List ℕ} → Solvable image state start → Checked (problemOf image) (inputsOf (sizesOf image) state) (startOf (sizesOf image) start)
+pub checked : {image state target start : List ℕ} → Solvable image state target start → Checked (problemOf image) (inputsOf (sizesOf image) state target) (startOf (sizesOf image) start)
 checked s = record { sized = s .accepted .sized; order = s .accepted .order; room = s .accepted .room; inputs-in = s .inputs; starts-in = s .starts }
 
 -- before the first iteration
-pub first-reached : (image state start : List ℕ) (s : State) → FirstOf start (commandCount (sizesOf image)) s → ReachedOf image state start 0 s
+pub first-reached : (image state target start : List ℕ) (s : State) → FirstOf start (commandCount (sizesOf image)) s → ReachedOf image state target start 0 s
 unfolding iterate errorAfter startOf
-first-reached image state start s f =
+first-reached image state target start s f =
     let n = count-is image in
     let z = sizesOf image in
     let word : (i : ℕ) → i < length (problemOf image .commands) → wordAt start (4 * i) ≡ getD (wordsAt start 0 (commandCount z)) i (pos 0) =

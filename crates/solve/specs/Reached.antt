@@ -25,9 +25,9 @@ pub record Reached (p : Problem) (inputs start : List ℤ) (k : ℕ) (s : State)
   pub at-e : Filled 0 (length (p .commands)) (λ (i : ℕ). getD (errorAfter p k .e) i 0) (s .e)
   pub at-q : Filled 0 (length (p .commands)) (λ (i : ℕ). getD (errorAfter p k .q) i 0) (s .q)
 
--- of the problem, the state and the start that a call is given
-abbrev pub ReachedOf : List ℕ → List ℕ → List ℕ → ℕ → State → Type 0
-ReachedOf image state start k s = Reached (problemOf image) (inputsOf (sizesOf image) state) (startOf (sizesOf image) start) k s
+-- of the problem, the inputs and the start that a call is given
+abbrev pub ReachedOf : List ℕ → List ℕ → List ℕ → List ℕ → ℕ → State → Type 0
+ReachedOf image state target start k s = Reached (problemOf image) (inputsOf (sizesOf image) state target) (startOf (sizesOf image) start) k s
 
 -- "z0 = y0 = start", "e is 0 before the first sweep", "q is 0 for the first sweep"
 pub record FirstOf (start : List ℕ) (n : ℕ) (s : State) : Type 0 where

@@ -23,14 +23,14 @@ fn first(start: &[u8], n: usize) -> State
 }
 
 // All iterations.
-fn run(image: &[u8], state: &[u8], start: &[u8]) -> State
-    requires { ⌜ Solvable (now image) (now state) (now start) ⌝ }
-    ensures { λ r. ⌜ ReachedOf (now (image .entry)) (now (state .entry)) (now (start .entry)) (sizesOf (now (image .entry)) .sweeps) r ⌝ }
+fn run(image: &[u8], state: &[u8], target: &[u8], start: &[u8]) -> State
+    requires { ⌜ Solvable (now image) (now state) (now target) (now start) ⌝ }
+    ensures { λ r. ⌜ ReachedOf (now (image .entry)) (now (state .entry)) (now (target .entry)) (now (start .entry)) (sizesOf (now (image .entry)) .sweeps) r ⌝ }
 {
     let z = image::sizes_of(image);
     let count = z.sweeps;
     let m = loading::matrix(image, z);
-    let t = loading::terms_of(image, state, z);
+    let t = loading::terms_of(image, state, target, z);
     let mut s = first(start, t.n);
     let mut k = 0;
     while k < count {
@@ -41,11 +41,11 @@ fn run(image: &[u8], state: &[u8], start: &[u8]) -> State
 }
 
 // The commands and then the bounds after the image's number of iterations are written.
-pub fn solve(image: &[u8], state: &[u8], start: &[u8], answer: &mut [u8])
-    requires { ⌜ Solvable (now image) (now state) (now start) × (length (now answer) ≡ 8 * commandCount (sizesOf (now image))) ⌝ }
-    ensures { λ _. ⌜ now (answer .exit) ≡ solveAnswer (now (image .entry)) (now (state .entry)) (now (start .entry)) ⌝ }
+pub fn solve(image: &[u8], state: &[u8], target: &[u8], start: &[u8], answer: &mut [u8])
+    requires { ⌜ Solvable (now image) (now state) (now target) (now start) × (length (now answer) ≡ 8 * commandCount (sizesOf (now image))) ⌝ }
+    ensures { λ _. ⌜ now (answer .exit) ≡ solveAnswer (now (image .entry)) (now (state .entry)) (now (target .entry)) (now (start .entry)) ⌝ }
 {
-    let s = run(image, state, start);
+    let s = run(image, state, target, start);
     let z = s.z;
     let e = s.e;
     let n = answer.len() / 8;

@@ -1,33 +1,49 @@
 -- `loading::linear_terms` meets its contract. Assumes nothing.
 use native.Mathlib.Omega.{arith}
 use mathlib.Core.Path.{_≡_, _∙_}
-use mathlib.Core.List.{List}
-use Prim.Native.Nat.{ℕ, _*_, _^_, _-_, _≤_}
-use lib.ListN.{length-take, length-drop}
-use lib.IntN.{ℤ, pos, natAbs}
+use Prim.Native.Nat.{_-_}
+use lib.IntN.{ℤ, pos, _+ℤ_}
 use mir.Syntax.{w64}
-use mir.Val.{toZ, ofZ}
-use Rattle.integer.proofs.Machine.{back}
-use Rattle.word.proofs.Buffer.{rest-from}
-use Rattle.image.specs.declared.Sizes.{Sizes}
+use mir.Val.{SFits, toZ, ofZ}
+use mir.Facts.{toZ-ofZ}
+use Rattle.integer.proofs.Laws.{abs-add}
+use Rattle.integer.proofs.Machine.{back, fit-abs}
 use Rattle.image.specs.Sizes.{commandCount}
-use Rattle.image.specs.Layout.{gainRow}
-use Rattle.array.proofs.Filling.{Filling, none, more, all}
-use Rattle.dot.specs.Sums.{inputTerm, Sums}
+use Rattle.array.proofs.Filling.{Filling, none, more, full}
 use Rattle.loading.specs.Tables.{linearAt}
 use Rattle.loading.proofs.Tables.{linear-is}
 use Rattle.loading.proofs.linear_terms.Statement.{statement}
 use Rattle.loading.proofs.linear_terms.Tie as tie
 
--- an element is the linear term, and no larger than 12 terms are
-abbrev LinearIs : Sizes → List ℕ → List ℕ → ℕ → ℤ → Type 0
-LinearIs z image state i x = (x ≡ linearAt z image state i) × (natAbs x ≤ 12 * 2 ^ 58)
-
 abbrev Inv-loop : tie.InvT-loop
-Inv-loop image state z n x r₀ i₀ r i = Filling (pos 0) (LinearIs z image state) n i r
+Inv-loop image state target z n x y r₀ i₀ r i = Filling (pos 0) (λ k h. h ≡ linearAt z image state target k) n i r
 
 abbrev μ-loop : tie.MeasureT-loop
-μ-loop image state z n x r₀ i₀ r i = n - i
+μ-loop image state target z n x y r₀ i₀ r i = n - i
+
+-- a turn's two sums
+module _ (c : tie.After-gain-sum2 Inv-loop μ-loop) where
+  abbrev a : tie.Start Inv-loop μ-loop
+  a = c .before .before .before .before .before .before .before .before .before .before .before .before .before
+
+  abbrev x : ℤ
+  x = c .before .before .gain-sum .result
+
+  abbrev y : ℤ
+  y = c .gain-sum2 .result
+
+  fits : SFits w64 (x +ℤ y)
+  fits =
+      let s = a .pre .0 .sizes in
+      fit-abs (x +ℤ y) (omega (arith, abs-add x y, c .before .before .gain-sum .ensures .1, c .gain-sum2 .ensures .1, s .nx-high, s .nr-high))
+
+  made : toZ w64 (ofZ w64 (toZ w64 (ofZ w64 x) +ℤ toZ w64 (ofZ w64 y))) ≡ linearAt (a .args .z) (a .args .image .now) (a .args .state .now) (a .args .target .now) (c .before .before .before .before .before .loop .i)
+  made =
+      let v = c .before .before .before .before .before .before .before .before .words-of in
+      let w = c .before .before .before .before .before .before .before .words-of2 in
+      rw (back x (c .before .before .gain-sum .ok), back y (c .gain-sum2 .ok), toZ-ofZ fits)
+      ((cc (c .before .before .gain-sum .ensures .0, c .gain-sum2 .ensures .0))
+      ∙ linear-is (a .args .z) (a .args .image .now) (a .args .state .now) (a .args .target .now) (v .result) (w .result) (c .before .before .before .before .before .loop .i) (v .ensures .0) (w .ensures .0))
 
 mul-n : tie.Need-mul-n Inv-loop μ-loop
 mul-n c = omega arith
@@ -35,31 +51,25 @@ mul-n c = omega arith
 words-of-requires : tie.Need-words-of-requires Inv-loop μ-loop
 words-of-requires c κs = omega arith
 
+words-of-requires-2 : tie.Need-words-of-requires-2 Inv-loop μ-loop
+words-of-requires-2 c κs = omega arith
+
 blank-requires : tie.Need-blank-requires Inv-loop μ-loop
 blank-requires c κs = tt
 
 loop-holds : tie.Need-loop-holds Inv-loop μ-loop
 loop-holds c =
-    let a = c .before .before .before .before .before .args in
-    none (pos 0) (LinearIs (a .z) (a .image .now) (a .state .now)) (commandCount (a .z)) (c .blank .result) (c .blank .ensures)
+    let a = c .before .before .before .before .before .before .before .args in
+    none (pos 0) (λ k h. h ≡ linearAt (a .z) (a .image .now) (a .state .now) (a .target .now) k) (commandCount (a .z)) (c .blank .result) (c .blank .ensures)
 
-gain-offset-requires : tie.Need-gain-offset-requires Inv-loop μ-loop
-gain-offset-requires c κs = (c .before .before .before .before .before .before .before .pre .0 .sizes, c .loop-test .taken)
+gain-sum-requires : tie.Need-gain-sum-requires Inv-loop μ-loop
+gain-sum-requires c κs = ((c .before .before .before .before .before .before .before .before .before .before .pre .0, c .before .loop-test .taken), c .before .before .before .before .before .words-of .ensures .1)
 
-sub-row-sum : tie.Need-sub-row-sum Inv-loop μ-loop
-sub-row-sum c = omega arith
+gain-sum-requires-2 : tie.Need-gain-sum-requires-2 Inv-loop μ-loop
+gain-sum-requires-2 c κs = ((c .before .before .before .before .before .before .before .before .before .before .before .before .pre .0, c .before .before .before .loop-test .taken), c .before .before .before .before .before .before .words-of2 .ensures .1)
 
-part-row-sum-start : tie.Need-part-row-sum-start Inv-loop μ-loop
-part-row-sum-start c = omega arith
-
-part-row-sum-end : tie.Need-part-row-sum-end Inv-loop μ-loop
-part-row-sum-end c = omega arith
-
-row-sum-requires : tie.Need-row-sum-requires Inv-loop μ-loop
-row-sum-requires c κs =
-    let a = c .before .before .before .before .before .before .before .before .before .before in
-    let s = a .pre .0 .sizes in
-    record { few = s .nx-high; low = s .b-low; high = s .b-high; held = simp (length-take, length-drop) (omega arith); right = c .before .before .before .before .before .before .words-of .ensures .1 }
+add-r : tie.Need-add-r Inv-loop μ-loop
+add-r c = rw (back (x c) (c .before .before .gain-sum .ok), back (y c) (c .gain-sum2 .ok)) (fits c)
 
 mul-r : tie.Need-mul-r Inv-loop μ-loop
 mul-r c = omega arith
@@ -75,20 +85,13 @@ loop-less c = omega arith
 
 loop-again : tie.Need-loop-again Inv-loop μ-loop
 loop-again c =
-    let a = c .before .before .before .before .before .before .before .before .before .before .before in
-    let w = c .before .before .before .before .before .before .before .words-of in
-    let at = c .before .before .before .gain-offset in
-    let i = c .before .before .before .before .before .loop .i in
-    let e = rest-from (a .args .image .now) _ _ (at .ensures .0) in
-    let s : Sums (inputTerm (gainRow (a .args .z) (a .args .image .now) i) (w .result) (a .args .z .b)) 0 (a .args .z .nx) (c .row-sum .result) = rw e at (c .row-sum .ensures) in
-    more (pos 0) (LinearIs (a .args .z) (a .args .image .now) (a .args .state .now)) (toZ w64 (ofZ w64 (c .row-sum .result))) (a .pre .0 .sizes .n-high) (c .before .before .before .before .loop-test .taken) (c .before .before .before .before .before .loop .inv)
-    (rw (back (c .row-sum .result) (c .row-sum .ok)) (s .0 ∙ linear-is (a .args .z) (a .args .image .now) (a .args .state .now) (w .result) i (w .ensures .0), omega (arith, s .1, a .pre .0 .sizes .nx-high)))
+    let s = a c .args in
+    more (pos 0) (λ k h. h ≡ linearAt (s .z) (s .image .now) (s .state .now) (s .target .now) k) _ (a c .pre .0 .sizes .n-high) (c .before .before .before .before .loop-test .taken) (c .before .before .before .before .before .loop .inv) (made c)
 
 returns : tie.Need-returns Inv-loop μ-loop
 returns c =
-    let a = c .before .before .before .before .before .before .before .args in
-    let f = all (pos 0) (LinearIs (a .z) (a .image .now) (a .state .now)) (c .loop-test .left) (c .before .loop .inv) in
-    record { linears = record { sized = c .before .loop .inv .sized; each = λ i h. f i h .0 }; small = λ i h. f i h .1 }
+    let s = c .before .before .before .before .before .before .before .before .before .args in
+    full (pos 0) (linearAt (s .z) (s .image .now) (s .state .now) (s .target .now)) (c .loop-test .left) (c .before .loop .inv)
 
 pub linear-terms-spec : {M : Type 1} → statement M
 linear-terms-spec =
@@ -98,13 +101,12 @@ linear-terms-spec =
     μ-loop
     mul-n
     words-of-requires
+    words-of-requires-2
     blank-requires
     loop-holds
-    gain-offset-requires
-    sub-row-sum
-    part-row-sum-start
-    part-row-sum-end
-    row-sum-requires
+    gain-sum-requires
+    gain-sum-requires-2
+    add-r
     mul-r
     array-set-from-r
     add-i

@@ -2,7 +2,7 @@
 use native.Mathlib.Omega.{arith}
 use lib.Pow.{pow-pos}
 use mathlib.Core.Path.{_≡_, ap, _∙_}
-use Prim.Native.Nat.{ℕ, _+_, _*_, _-_, _^_, _≤_, _<_, min}
+use Prim.Native.Nat.{ℕ, _+_, _-_, _^_, _≤_, _<_, min}
 use lib.ListN.{getD}
 use lib.IntN.{ℤ, pos, natAbs, _-ℤ_}
 use mir.Syntax.{w64}
@@ -37,7 +37,7 @@ module _ (c : tie.After-x Inv-loop μ-loop) where
   abbrev h : ℤ
   h = getD (start .args .t2 .linear) i (pos 0)
 
-  small : natAbs h ≤ 12 * 2 ^ 58
+  small : natAbs h ≤ 2 ^ 31
   small = start .pre .0 .0 .linears i (omega arith)
 
   fh : SFits w64 h

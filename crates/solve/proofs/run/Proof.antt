@@ -16,15 +16,15 @@ use Rattle.solve.proofs.run.Statement.{statement}
 use Rattle.solve.proofs.run.Tie as tie
 
 abbrev Inv-loop : tie.InvT-loop
-Inv-loop image state start count m t s₀ k₀ s k = (k ≤ count) × ReachedOf image state start k s
+Inv-loop image state target start count m t s₀ k₀ s k = (k ≤ count) × ReachedOf image state target start k s
 
 abbrev μ-loop : tie.MeasureT-loop
-μ-loop image state start count m t s₀ k₀ s k = count - k
+μ-loop image state target start count m t s₀ k₀ s k = count - k
 
 -- the sizes are the image's
 module _ (c : tie.After-sizes-of Inv-loop μ-loop) where
   abbrev start : tie.Start Inv-loop μ-loop
-  start = c .before .before .before .before
+  start = c .before .before .before .before .before
 
   is-whole : Whole (c .sizes-of .result) (start .args .image .now)
   is-whole = subst (λ (z : Sizes). Whole z (start .args .image .now)) (sym (c .sizes-of .ensures)) (start .pre .accepted .whole)
@@ -34,20 +34,23 @@ module _ (c : tie.After-terms-of Inv-loop μ-loop) where
   abbrev d : tie.After-sizes-of Inv-loop μ-loop
   d = c .before .before
 
-  rep : Represents (problemOf (start d .args .image .now)) (inputsOf (sizesOf (start d .args .image .now)) (start d .args .state .now)) (c .before .matrix .result) (c .terms-of .result)
-  rep = represents (d .sizes-of .result) (start d .args .image .now) (start d .args .state .now) (c .before .matrix .result) (c .terms-of .result) (c .before .matrix .ensures) (c .terms-of .ensures) (d .sizes-of .ensures)
+  rep : Represents (problemOf (start d .args .image .now)) (inputsOf (sizesOf (start d .args .image .now)) (start d .args .state .now) (start d .args .target .now)) (c .before .matrix .result) (c .terms-of .result)
+  rep = represents (d .sizes-of .result) (start d .args .image .now) (start d .args .state .now) (start d .args .target .now) (c .before .matrix .result) (c .terms-of .result) (c .before .matrix .ensures) (c .terms-of .ensures) (d .sizes-of .ensures)
 
   n-is : c .terms-of .result .n ≡ commandCount (sizesOf (start d .args .image .now))
   n-is = c .terms-of .ensures .n-is ∙ ap (λ (z : Sizes). commandCount z) (d .sizes-of .ensures)
 
 sizes-of-requires : tie.Need-sizes-of-requires Inv-loop μ-loop
-sizes-of-requires c κs = omega (arith, c .before .before .before .pre .accepted .whole .size)
+sizes-of-requires c κs = omega (arith, c .before .before .before .before .pre .accepted .whole .size)
 
 matrix-requires : tie.Need-matrix-requires Inv-loop μ-loop
 matrix-requires c κs = is-whole c
 
 terms-of-requires : tie.Need-terms-of-requires Inv-loop μ-loop
-terms-of-requires c κs = (is-whole (c .before), start (c .before) .pre .state-size ∙ ap (λ (z : Sizes). 4 * z .nx) (sym (c .before .sizes-of .ensures)))
+terms-of-requires c κs =
+    let s = start (c .before) .pre in
+    let e = sym (c .before .sizes-of .ensures) in
+    (is-whole (c .before), (s .state-size ∙ ap (λ (z : Sizes). 4 * z .nx) e, s .target-size ∙ ap (λ (z : Sizes). 4 * z .nr) e))
 
 first-requires : tie.Need-first-requires Inv-loop μ-loop
 first-requires c κs =
@@ -58,7 +61,7 @@ first-requires c κs =
 loop-holds : tie.Need-loop-holds Inv-loop μ-loop
 loop-holds c =
     let a = start (c .before .before .before) .args in
-    (omega arith, first-reached (a .image .now) (a .state .now) (a .start .now) (c .first .result) (subst (λ (n : ℕ). FirstOf (a .start .now) n (c .first .result)) (n-is (c .before)) (c .first .ensures)))
+    (omega arith, first-reached (a .image .now) (a .state .now) (a .target .now) (a .start .now) (c .first .result) (subst (λ (n : ℕ). FirstOf (a .start .now) n (c .first .result)) (n-is (c .before)) (c .first .ensures)))
 
 advance-requires : tie.Need-advance-requires Inv-loop μ-loop
 advance-requires c κs = ready (rep (c .before .before .before)) (checked (start (c .before .before .before .before .before) .pre)) (c .before .loop .k) (c .before .loop .s) (c .before .loop .inv .1)
@@ -80,7 +83,7 @@ returns c =
     let d = c .before .before .before .before .before in
     let a = start d .args in
     let e : l .k ≡ d .sizes-of .result .sweeps = omega arith in
-    subst (λ (k : ℕ). ReachedOf (a .image .now) (a .state .now) (a .start .now) k (l .s)) (e ∙ ap (λ (z : Sizes). z .sweeps) (d .sizes-of .ensures)) (l .inv .1)
+    subst (λ (k : ℕ). ReachedOf (a .image .now) (a .state .now) (a .target .now) (a .start .now) k (l .s)) (e ∙ ap (λ (z : Sizes). z .sweeps) (d .sizes-of .ensures)) (l .inv .1)
 
 pub run-spec : {M : Type 1} → statement M
 run-spec =

@@ -17,7 +17,7 @@ use Rattle.solve.proofs.solve.Tie as tie
 -- the n commands and the n bounds that the arrays hold
 module _ (c : tie.After-run) where
   abbrev start : tie.Start
-  start = c .before .before .before .before .before
+  start = c .before .before .before .before .before .before
 
   abbrev n : ℕ
   n = length (start .args .answer .now) / 8
@@ -31,7 +31,7 @@ module _ (c : tie.After-run) where
   room : n ≤ 16
   room = few (start .pre .0) sweeps (c .run .result) (c .run .ensures) n n-is
 
-  z-are : take n (c .run .result .z) ≡ commandsAfter (start .args .image .now) (start .args .state .now) (start .args .start .now) sweeps
+  z-are : take n (c .run .result .z) ≡ commandsAfter (start .args .image .now) (start .args .state .now) (start .args .target .now) (start .args .start .now) sweeps
   z-are = commands-are (start .pre .0) sweeps (c .run .result) (c .run .ensures) n n-is
 
   e-are : take n (c .run .result .e) ≡ boundsAfter (start .args .image .now) sweeps
