@@ -1,10 +1,10 @@
 -- Line 01, and the lines due. Assumes nothing.
 use mathlib.Core.Path.{_≡_, sym, ap, _∙_}
 use mathlib.Core.Bool.{Bool, true, false, cond, false≢true}
-use Prim.Native.Nat.{ℕ, _-_, _*_, _/_, _%_, _≤_, _<_}
+use Prim.Native.Nat.{ℕ, zero, suc, _+_, _-_, _*_, _/_, _%_, _≤_, _<_}
 use lib.IntN.{ℤ, pos, negsuc}
 use lib.Signed.{ltZ}
-use native.Mathlib.Nat.{not-suc-le-zero, mul-one, div-one, mod-one}
+use native.Mathlib.Nat.{not-suc-le-zero, mul-zero, mul-one, div-one, mod-one}
 use native.Mathlib.Omega.{arith}
 use lib.Dec.{ltb}
 use borrow.Author.Tests.{ltb-true, eq-eqb, ne-eqb, lt-ltb, le-ltb}
@@ -22,82 +22,117 @@ pub head-kind : (l : Line) (k r c n : ℕ) → l ≡ Frame k r c n → (k ≡ 1 
 unfolding headOf
 head-kind l k r c n e h = rw (e, ne-eqb k 1 h)
 
-pub head-gap : (l : Line) (k r c n : ℕ) → l ≡ Frame k r c n → k ≡ 1 → (n / 0x1_0000_0000 % 256 ≡ 0 → ⊥) → Unsized 2 ≡ headOf l
+pub head-tail : (l : Line) (k r c n : ℕ) → l ≡ Frame k r c n → k ≡ 1 → (n % 65536 ≡ 0 → ⊥) → Unsized 2 ≡ headOf l
 unfolding headOf
-head-gap l k r c n e h g = rw (e, eq-eqb k 1 h, ne-eqb (n / 0x1_0000_0000 % 256) 0 g)
+head-tail l k r c n e h t = rw (e, eq-eqb k 1 h, ne-eqb (n % 65536) 0 t)
 
-pub head-tail : (l : Line) (k r c n : ℕ) → l ≡ Frame k r c n → k ≡ 1 → n / 0x1_0000_0000 % 256 ≡ 0 → (n % 65536 ≡ 0 → ⊥) → Unsized 2 ≡ headOf l
-unfolding headOf
-head-tail l k r c n e h g t = rw (e, eq-eqb k 1 h, eq-eqb (n / 0x1_0000_0000 % 256) 0 g, ne-eqb (n % 65536) 0 t)
-
-module _ (l : Line) (k r c n : ℕ) (z : Sizes) (b : Bool) (e : l ≡ Frame k r c n) (h : k ≡ 1) (g : n / 0x1_0000_0000 % 256 ≡ 0) (t : n % 65536 ≡ 0) (is : z ≡ frameSizes r c n) (q : b ≡ sound z) where
+module _ (l : Line) (k r c n : ℕ) (z : Sizes) (b : Bool) (e : l ≡ Frame k r c n) (h : k ≡ 1) (t : n % 65536 ≡ 0) (is : z ≡ frameSizes r c n) (q : b ≡ sound z) where
   pub head-sized : b ≡ true → Sized z ≡ headOf l
   unfolding headOf
-  head-sized y = rw (e, eq-eqb k 1 h, eq-eqb (n / 0x1_0000_0000 % 256) 0 g, eq-eqb (n % 65536) 0 t, ap sound (sym is) ∙ sym q ∙ y) (ap Sized is)
+  head-sized y = rw (e, eq-eqb k 1 h, eq-eqb (n % 65536) 0 t, ap sound (sym is) ∙ sym q ∙ y) (ap Sized is)
 
   pub head-unsound : b ≡ false → Unsized 3 ≡ headOf l
   unfolding headOf
-  head-unsound y = rw (e, eq-eqb k 1 h, eq-eqb (n / 0x1_0000_0000 % 256) 0 g, eq-eqb (n % 65536) 0 t, ap sound (sym is) ∙ sym q ∙ y)
+  head-unsound y = rw (e, eq-eqb k 1 h, eq-eqb (n % 65536) 0 t, ap sound (sym is) ∙ sym q ∙ y)
 
 -- ---- the lines due
-pub flat : (z : Sizes) (i : ℕ) → dueAt z i ≡
-    cond (ltb i (commandCount z * commandCount z)) (due 2 (i / commandCount z) (i % commandCount z))
-    (cond (ltb (i - commandCount z * commandCount z) (commandCount z * z .nx)) (due 3 ((i - commandCount z * commandCount z) / z .nx) ((i - commandCount z * commandCount z) % z .nx))
-    (cond (ltb (i - commandCount z * commandCount z - commandCount z * z .nx) (z .nu)) (due 4 (i - commandCount z * commandCount z - commandCount z * z .nx) 0)
-    (cond (ltb (i - commandCount z * commandCount z - commandCount z * z .nx - z .nu) (z .nu)) (due 5 (i - commandCount z * commandCount z - commandCount z * z .nx - z .nu) 0)
-    (cond (ltb (i - commandCount z * commandCount z - commandCount z * z .nx - z .nu - z .nu) 1) (due 6 (i - commandCount z * commandCount z - commandCount z * z .nx - z .nu - z .nu) 0)
-    (cond (ltb (i - commandCount z * commandCount z - commandCount z * z .nx - z .nu - z .nu - 1) (z .nx)) (due 7 (i - commandCount z * commandCount z - commandCount z * z .nx - z .nu - z .nu - 1) 0) (due 0 0 0))))))
-unfolding dueAt
-flat z i = simp (mul-one, div-one, mod-one)
 
 -- as many as the image has words after the first eight
 pub total-is : (z : Sizes) → total z ≡ bodyCount z
 unfolding total
 total-is z = omega arith
 
-pub total-high : (z : Sizes) → Sound z → total z ≤ 469
+pub total-high : (z : Sizes) → Sound z → total z ≤ 537
 total-high z o = omega (arith, total-is z)
 
--- each table's lines, by the tests that lead there
+-- a place behind the last table but one is in the last
+last-part : (p a b t i : ℕ) → a ≤ p → t + p ≡ i → i < t + a + b → p - a < b
+last-part p a b t i l e h = omega arith
+
 module _ (z : Sizes) (i : ℕ) where
   abbrev n : ℕ
   n = commandCount z
 
+  -- what is left of a line's place behind the table of kind 2, behind that of kind 3, ..
+  abbrev pub past2 : ℕ
+  past2 = i - n * n
+
+  abbrev pub past3 : ℕ
+  past3 = past2 - n * z .nx
+
+  abbrev pub past4 : ℕ
+  past4 = past3 - z .nu
+
+  abbrev pub past5 : ℕ
+  past5 = past4 - z .nu
+
+  abbrev pub past6 : ℕ
+  past6 = past5 - 1
+
+  abbrev pub past7 : ℕ
+  past7 = past6 - z .nx
+
+  abbrev pub past8 : ℕ
+  past8 = past7 - n * z .nr
+
+  pub flat : dueAt z i ≡
+      cond (ltb i (n * n)) (due 2 (i / n) (i % n))
+      (cond (ltb past2 (n * z .nx)) (due 3 (past2 / z .nx) (past2 % z .nx))
+      (cond (ltb past3 (z .nu)) (due 4 past3 0)
+      (cond (ltb past4 (z .nu)) (due 5 past4 0)
+      (cond (ltb past5 1) (due 6 past5 0)
+      (cond (ltb past6 (z .nx)) (due 7 past6 0)
+      (cond (ltb past7 (n * z .nr)) (due 8 (past7 / z .nr) (past7 % z .nr))
+      (cond (ltb past8 (z .nr)) (due 9 past8 0) (due 0 0 0))))))))
+  unfolding dueAt
+  flat = simp (mul-one, div-one, mod-one)
+
+  -- each table's lines, by the tests that lead there
   pub due-2 : i < n * n → due 2 (i / n) (i % n) ≡ dueAt z i
-  due-2 a = rw (flat z i, lt-ltb i (n * n) a)
+  due-2 a = rw (flat, lt-ltb i (n * n) a)
 
   module _ (a : n * n ≤ i) where
-    pub due-3 : i - n * n < n * z .nx → due 3 ((i - n * n) / z .nx) ((i - n * n) % z .nx) ≡ dueAt z i
-    due-3 b = rw (flat z i, le-ltb i (n * n) a, lt-ltb (i - n * n) (n * z .nx) b)
+    pub due-3 : past2 < n * z .nx → due 3 (past2 / z .nx) (past2 % z .nx) ≡ dueAt z i
+    due-3 b = rw (flat, le-ltb i (n * n) a, lt-ltb past2 (n * z .nx) b)
 
-    module _ (b : n * z .nx ≤ i - n * n) where
-      pub due-4 : i - n * n - n * z .nx < z .nu → due 4 (i - n * n - n * z .nx) 0 ≡ dueAt z i
-      due-4 c = rw (flat z i, le-ltb i (n * n) a, le-ltb (i - n * n) (n * z .nx) b, lt-ltb (i - n * n - n * z .nx) (z .nu) c)
+    module _ (b : n * z .nx ≤ past2) where
+      pub due-4 : past3 < z .nu → due 4 past3 0 ≡ dueAt z i
+      due-4 c = rw (flat, le-ltb i (n * n) a, le-ltb past2 (n * z .nx) b, lt-ltb past3 (z .nu) c)
 
-      module _ (c : z .nu ≤ i - n * n - n * z .nx) where
-        pub due-5 : i - n * n - n * z .nx - z .nu < z .nu → due 5 (i - n * n - n * z .nx - z .nu) 0 ≡ dueAt z i
-        due-5 d = rw (flat z i, le-ltb i (n * n) a, le-ltb (i - n * n) (n * z .nx) b, le-ltb (i - n * n - n * z .nx) (z .nu) c, lt-ltb (i - n * n - n * z .nx - z .nu) (z .nu) d)
+      module _ (c : z .nu ≤ past3) where
+        pub due-5 : past4 < z .nu → due 5 past4 0 ≡ dueAt z i
+        due-5 d = rw (flat, le-ltb i (n * n) a, le-ltb past2 (n * z .nx) b, le-ltb past3 (z .nu) c, lt-ltb past4 (z .nu) d)
 
-        module _ (d : z .nu ≤ i - n * n - n * z .nx - z .nu) where
-          pub due-6 : i - n * n - n * z .nx - z .nu - z .nu < 1 → due 6 0 0 ≡ dueAt z i
-          due-6 e =
-              rw (flat z i, le-ltb i (n * n) a, le-ltb (i - n * n) (n * z .nx) b, le-ltb (i - n * n - n * z .nx) (z .nu) c, le-ltb (i - n * n - n * z .nx - z .nu) (z .nu) d, lt-ltb (i - n * n - n * z .nx - z .nu - z .nu) 1 e)
-              (ap (λ (r : ℕ). due 6 r 0) (omega arith))
+        module _ (d : z .nu ≤ past4) where
+          late : dueAt z i ≡
+              cond (ltb past5 1) (due 6 past5 0)
+              (cond (ltb past6 (z .nx)) (due 7 past6 0)
+              (cond (ltb past7 (n * z .nr)) (due 8 (past7 / z .nr) (past7 % z .nr))
+              (cond (ltb past8 (z .nr)) (due 9 past8 0) (due 0 0 0))))
+          late = rw (flat, le-ltb i (n * n) a, le-ltb past2 (n * z .nx) b, le-ltb past3 (z .nu) c, le-ltb past4 (z .nu) d)
 
-          pub due-7 : 1 ≤ i - n * n - n * z .nx - z .nu - z .nu → i < total z → due 7 (i - n * n - n * z .nx - z .nu - z .nu - 1) 0 ≡ dueAt z i
-          due-7 e l =
-              let f : i - n * n - n * z .nx - z .nu - z .nu - 1 < z .nx = omega (arith, total-is z) in
-              rw (
-                flat z i,
-                le-ltb i (n * n) a,
-                le-ltb (i - n * n) (n * z .nx) b,
-                le-ltb (i - n * n - n * z .nx) (z .nu) c,
-                le-ltb (i - n * n - n * z .nx - z .nu) (z .nu) d,
-                le-ltb (i - n * n - n * z .nx - z .nu - z .nu) 1 e,
-                lt-ltb (i - n * n - n * z .nx - z .nu - z .nu - 1) (z .nx) f,
-              )
+          pub due-6 : past5 < 1 → due 6 0 0 ≡ dueAt z i
+          due-6 e = rw (late, lt-ltb past5 1 e) (ap (λ (r : ℕ). due 6 r 0) (omega arith))
 
--- ---- a state limit
+          module _ (e : 1 ≤ past5) where
+            pub due-7 : past6 < z .nx → due 7 past6 0 ≡ dueAt z i
+            due-7 f = rw (late, le-ltb past5 1 e, lt-ltb past6 (z .nx) f)
+
+            module _ (f : z .nx ≤ past6) where
+              pub due-8 : past7 < n * z .nr → due 8 (past7 / z .nr) (past7 % z .nr) ≡ dueAt z i
+              due-8 g = rw (late, le-ltb past5 1 e, le-ltb past6 (z .nx) f, lt-ltb past7 (n * z .nr) g)
+
+              pub due-9 : n * z .nr ≤ past7 → i < total z → due 9 past8 0 ≡ dueAt z i
+              due-9 g l =
+                  let h : past8 < z .nr = last-part past7 (n * z .nr) (z .nr) (n * n + n * z .nx + 2 * z .nu + 1 + z .nx) i g (omega arith) (omega (arith, total-is z)) in
+                  rw (late, le-ltb past5 1 e, le-ltb past6 (z .nx) f, le-ltb past7 (n * z .nr) g, lt-ltb past8 (z .nr) h)
+
+-- a table with a line has columns
+pub some-columns : (i r c : ℕ) → i < r * c → 1 ≤ c
+some-columns i r zero l = let x : ⊥ = omega (arith, mul-zero r) in absurd x
+some-columns i r (suc c) l = omega arith
+
+-- ---- a limit of the state or the target
 pub below : (v : ℤ) (c : Converted) → c ≡ Word v → ltZ v (pos 0) ≡ true → Refused ≡ notBelowZero c
 below (pos n) c e h = absurd (not-suc-le-zero (ltb-true n 0 h))
 below (negsuc n) c e h = rw e

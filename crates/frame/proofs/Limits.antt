@@ -9,29 +9,36 @@ use Rattle.image.specs.declared.Sizes.{Sizes}
 use Rattle.image.specs.Sizes.{commandCount}
 use Rattle.frame.specs.declared.Due.{Due}
 use Rattle.frame.specs.Frame.{due, dueAt, isLow, lowBase}
-use Rattle.frame.proofs.Laws.{due-4, due-5, flat}
+use Rattle.frame.proofs.Laws.{due-4, due-5, flat, past2, past3, past4, past5, past6, past7, past8}
 
-abbrev pick : (a b c d e f : Bool) (r₁ c₁ r₂ c₂ r₃ r₄ r₅ r₆ : ℕ) → Due
-pick a b c d e f r₁ c₁ r₂ c₂ r₃ r₄ r₅ r₆ =
-    cond a (due 2 r₁ c₁) (cond b (due 3 r₂ c₂) (cond c (due 4 r₃ 0) (cond d (due 5 r₄ 0) (cond e (due 6 r₅ 0) (cond f (due 7 r₆ 0) (due 0 0 0))))))
+-- no line behind the motors' limits is one of them
+abbrev late : (e f g h : Bool) (r₆ r₇ r₈ c₈ r₉ : ℕ) → Due
+late e f g h r₆ r₇ r₈ c₈ r₉ = cond e (due 6 r₆ 0) (cond f (due 7 r₇ 0) (cond g (due 8 r₈ c₈) (cond h (due 9 r₉ 0) (due 0 0 0))))
 
-four : (a b c d e f : Bool) (r₁ c₁ r₂ c₂ r₃ r₄ r₅ r₆ : ℕ) → pick a b c d e f r₁ c₁ r₂ c₂ r₃ r₄ r₅ r₆ .kind ≡ 4 → (b ≡ false) × (c ≡ true) × (a ≡ false)
-four true b c d e f r₁ c₁ r₂ c₂ r₃ r₄ r₅ r₆ h = let x : ⊥ = omega arith in absurd x
-four false true c d e f r₁ c₁ r₂ c₂ r₃ r₄ r₅ r₆ h = let x : ⊥ = omega arith in absurd x
-four false false true d e f r₁ c₁ r₂ c₂ r₃ r₄ r₅ r₆ h = (refl, refl, refl)
-four false false false true e f r₁ c₁ r₂ c₂ r₃ r₄ r₅ r₆ h = let x : ⊥ = omega arith in absurd x
-four false false false false true f r₁ c₁ r₂ c₂ r₃ r₄ r₅ r₆ h = let x : ⊥ = omega arith in absurd x
-four false false false false false true r₁ c₁ r₂ c₂ r₃ r₄ r₅ r₆ h = let x : ⊥ = omega arith in absurd x
-four false false false false false false r₁ c₁ r₂ c₂ r₃ r₄ r₅ r₆ h = let x : ⊥ = omega arith in absurd x
+no-limit : (e f g h : Bool) (r₆ r₇ r₈ c₈ r₉ : ℕ) → (late e f g h r₆ r₇ r₈ c₈ r₉ .kind ≡ 4 → ⊥) × (late e f g h r₆ r₇ r₈ c₈ r₉ .kind ≡ 5 → ⊥)
+no-limit true f g h r₆ r₇ r₈ c₈ r₉ = (λ q. omega arith, λ q. omega arith)
+no-limit false true g h r₆ r₇ r₈ c₈ r₉ = (λ q. omega arith, λ q. omega arith)
+no-limit false false true h r₆ r₇ r₈ c₈ r₉ = (λ q. omega arith, λ q. omega arith)
+no-limit false false false true r₆ r₇ r₈ c₈ r₉ = (λ q. omega arith, λ q. omega arith)
+no-limit false false false false r₆ r₇ r₈ c₈ r₉ = (λ q. omega arith, λ q. omega arith)
 
-five : (a b c d e f : Bool) (r₁ c₁ r₂ c₂ r₃ r₄ r₅ r₆ : ℕ) → pick a b c d e f r₁ c₁ r₂ c₂ r₃ r₄ r₅ r₆ .kind ≡ 5 → (b ≡ false) × (c ≡ false) × (a ≡ false) × (d ≡ true)
-five true b c d e f r₁ c₁ r₂ c₂ r₃ r₄ r₅ r₆ h = let x : ⊥ = omega arith in absurd x
-five false true c d e f r₁ c₁ r₂ c₂ r₃ r₄ r₅ r₆ h = let x : ⊥ = omega arith in absurd x
-five false false true d e f r₁ c₁ r₂ c₂ r₃ r₄ r₅ r₆ h = let x : ⊥ = omega arith in absurd x
-five false false false true e f r₁ c₁ r₂ c₂ r₃ r₄ r₅ r₆ h = (refl, refl, refl, refl)
-five false false false false true f r₁ c₁ r₂ c₂ r₃ r₄ r₅ r₆ h = let x : ⊥ = omega arith in absurd x
-five false false false false false true r₁ c₁ r₂ c₂ r₃ r₄ r₅ r₆ h = let x : ⊥ = omega arith in absurd x
-five false false false false false false r₁ c₁ r₂ c₂ r₃ r₄ r₅ r₆ h = let x : ⊥ = omega arith in absurd x
+-- with those before them
+abbrev pick : (a b c d : Bool) (r₂ c₂ r₃ c₃ r₄ r₅ : ℕ) → Due → Due
+pick a b c d r₂ c₂ r₃ c₃ r₄ r₅ rest = cond a (due 2 r₂ c₂) (cond b (due 3 r₃ c₃) (cond c (due 4 r₄ 0) (cond d (due 5 r₅ 0) rest)))
+
+four : (a b c d : Bool) (r₂ c₂ r₃ c₃ r₄ r₅ : ℕ) (rest : Due) → (rest .kind ≡ 4 → ⊥) → pick a b c d r₂ c₂ r₃ c₃ r₄ r₅ rest .kind ≡ 4 → (a ≡ false) × (b ≡ false) × (c ≡ true)
+four true b c d r₂ c₂ r₃ c₃ r₄ r₅ rest n h = let x : ⊥ = omega arith in absurd x
+four false true c d r₂ c₂ r₃ c₃ r₄ r₅ rest n h = let x : ⊥ = omega arith in absurd x
+four false false true d r₂ c₂ r₃ c₃ r₄ r₅ rest n h = (refl, refl, refl)
+four false false false true r₂ c₂ r₃ c₃ r₄ r₅ rest n h = let x : ⊥ = omega arith in absurd x
+four false false false false r₂ c₂ r₃ c₃ r₄ r₅ rest n h = absurd (n h)
+
+five : (a b c d : Bool) (r₂ c₂ r₃ c₃ r₄ r₅ : ℕ) (rest : Due) → (rest .kind ≡ 5 → ⊥) → pick a b c d r₂ c₂ r₃ c₃ r₄ r₅ rest .kind ≡ 5 → (a ≡ false) × (b ≡ false) × (c ≡ false) × (d ≡ true)
+five true b c d r₂ c₂ r₃ c₃ r₄ r₅ rest n h = let x : ⊥ = omega arith in absurd x
+five false true c d r₂ c₂ r₃ c₃ r₄ r₅ rest n h = let x : ⊥ = omega arith in absurd x
+five false false true d r₂ c₂ r₃ c₃ r₄ r₅ rest n h = let x : ⊥ = omega arith in absurd x
+five false false false true r₂ c₂ r₃ c₃ r₄ r₅ rest n h = (refl, refl, refl, refl)
+five false false false false r₂ c₂ r₃ c₃ r₄ r₅ rest n h = absurd (n h)
 
 pub low-due : (z : Sizes) (i : ℕ) → isLow z i → dueAt z i ≡ due 4 (i - lowBase z) 0
 unfolding lowBase
@@ -41,16 +48,20 @@ pub high-due : (z : Sizes) (i : ℕ) → lowBase z + z .nu ≤ i → i < lowBase
 unfolding lowBase
 high-due z i h l = sym (due-5 z i (omega arith) (omega arith) (omega arith) (omega arith)) ∙ ap (λ (r : ℕ). due 5 r 0) (omega arith)
 
-pub low-of : (z : Sizes) (i : ℕ) → dueAt z i .kind ≡ 4 → isLow z i
-unfolding lowBase
-low-of z i h =
-    let n = commandCount z in
-    let p = four (ltb i (n * n)) (ltb (i - n * n) (n * z .nx)) (ltb (i - n * n - n * z .nx) (z .nu)) (ltb (i - n * n - n * z .nx - z .nu) (z .nu)) (ltb (i - n * n - n * z .nx - z .nu - z .nu) 1) (ltb (i - n * n - n * z .nx - z .nu - z .nu - 1) (z .nx)) _ _ _ _ _ _ _ _ (rw flat at h) in
-    omega (arith, ltb-false i (n * n) (p .2), ltb-false (i - n * n) (n * z .nx) (p .0), ltb-true (i - n * n - n * z .nx) (z .nu) (p .1))
+module _ (z : Sizes) (i : ℕ) where
+  abbrev n : ℕ
+  n = commandCount z
 
-pub high-of : (z : Sizes) (i : ℕ) → dueAt z i .kind ≡ 5 → (lowBase z + z .nu ≤ i) × (i < lowBase z + z .nu + z .nu)
-unfolding lowBase
-high-of z i h =
-    let n = commandCount z in
-    let p = five (ltb i (n * n)) (ltb (i - n * n) (n * z .nx)) (ltb (i - n * n - n * z .nx) (z .nu)) (ltb (i - n * n - n * z .nx - z .nu) (z .nu)) (ltb (i - n * n - n * z .nx - z .nu - z .nu) 1) (ltb (i - n * n - n * z .nx - z .nu - z .nu - 1) (z .nx)) _ _ _ _ _ _ _ _ (rw flat at h) in
-    omega (arith, ltb-false i (n * n) (p .2), ltb-false (i - n * n) (n * z .nx) (p .0), ltb-false (i - n * n - n * z .nx) (z .nu) (p .1), ltb-true (i - n * n - n * z .nx - z .nu) (z .nu) (p .3))
+  pub low-of : dueAt z i .kind ≡ 4 → isLow z i
+  unfolding lowBase
+  low-of h =
+      let p = four (ltb i (n * n)) (ltb (past2 z i) (n * z .nx)) (ltb (past3 z i) (z .nu)) (ltb (past4 z i) (z .nu)) _ _ _ _ _ _ _
+      (no-limit (ltb (past5 z i) 1) (ltb (past6 z i) (z .nx)) (ltb (past7 z i) (n * z .nr)) (ltb (past8 z i) (z .nr)) _ _ _ _ _ .0) (rw flat at h) in
+      omega (arith, ltb-false i (n * n) (p .0), ltb-false (past2 z i) (n * z .nx) (p .1), ltb-true (past3 z i) (z .nu) (p .2))
+
+  pub high-of : dueAt z i .kind ≡ 5 → (lowBase z + z .nu ≤ i) × (i < lowBase z + z .nu + z .nu)
+  unfolding lowBase
+  high-of h =
+      let p = five (ltb i (n * n)) (ltb (past2 z i) (n * z .nx)) (ltb (past3 z i) (z .nu)) (ltb (past4 z i) (z .nu)) _ _ _ _ _ _ _
+      (no-limit (ltb (past5 z i) 1) (ltb (past6 z i) (z .nx)) (ltb (past7 z i) (n * z .nr)) (ltb (past8 z i) (z .nr)) _ _ _ _ _ .1) (rw flat at h) in
+      omega (arith, ltb-false i (n * n) (p .0), ltb-false (past2 z i) (n * z .nx) (p .1), ltb-false (past3 z i) (z .nu) (p .2), ltb-true (past4 z i) (z .nu) (p .3))

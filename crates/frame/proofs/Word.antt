@@ -5,7 +5,6 @@ use Prim.Native.Nat.{ℕ}
 use native.Mathlib.Omega.{arith}
 use lib.IntN.{ℤ, pos, negsuc}
 use lib.Ieee.{Float, binary64, ofBits}
-use lib.Dec.{eqb}
 use lib.Signed.{leZ}
 use borrow.Author.Tests.{le-leb}
 use Rattle.word.specs.Format.{isFormat, top, inWord}
@@ -18,7 +17,7 @@ use Rattle.line.specs.declared.Line.{Line}
 use Rattle.line.specs.declared.Line.the-variants.{Frame, Malformed, End}
 use Rattle.frame.specs.declared.Due.{Due}
 use Rattle.frame.specs.declared.Value.the-variants.{Double, Fault}
-use Rattle.frame.specs.Frame.{convertedWord, isDue, notBelowZero, roundingOf, valueOf, wordOf}
+use Rattle.frame.specs.Frame.{convertedWord, isDue, isInputLimit, notBelowZero, roundingOf, valueOf, wordOf}
 use Rattle.frame.proofs.Sized.{differ}
 
 -- ---- the word of a double
@@ -62,16 +61,16 @@ module _ (z : Sizes) (kind : ℕ) (x : Float) where
   -- it is one of the format
   pub word-in : inWord (z .w) (convertedWord (wordOf z kind x)) ≡ true
   unfolding wordOf
-  word-in = kind-in (z .w) (eqb kind 7) (convert rule (z .b) (z .w) x) (convert-in (z .w) rule (z .b) x)
+  word-in = kind-in (z .w) (isInputLimit kind) (convert rule (z .b) (z .w) x) (convert-in (z .w) rule (z .b) x)
 
-  pub limit-in : kind ≡ 7 → leZ (pos 0) (convertedWord (wordOf z kind x)) ≡ true
+  pub limit-in : isInputLimit kind ≡ true → leZ (pos 0) (convertedWord (wordOf z kind x)) ≡ true
   unfolding wordOf
-  limit-in e = rw e (not-negative (convert roundUp (z .b) (z .w) x))
+  limit-in e = rw e (not-negative (convert rule (z .b) (z .w) x))
 
   -- and the rounding of the double by its kind
   pub word-rounded : (v : ℤ) → wordOf z kind x ≡ Word v → v ≡ rounded rule (z .b) x
   unfolding wordOf
-  word-rounded v e = convert-word rule (z .b) (z .w) x (not-below-word (eqb kind 7) (convert rule (z .b) (z .w) x) v e) .1
+  word-rounded v e = convert-word rule (z .b) (z .w) x (not-below-word (isInputLimit kind) (convert rule (z .b) (z .w) x) v e) .1
 
   pub kind-4 : kind ≡ 4 → wordOf z kind x ≡ convert roundUp (z .b) (z .w) x
   unfolding wordOf

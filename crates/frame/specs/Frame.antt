@@ -1,6 +1,6 @@
 -- Document 01, "The design sheet": what line 01 gives, the lines due after it, and the word of a line's double. Definitions only.
 use Prim.Native.Nat.{ℕ, _+_, _-_, _*_, _/_, _%_, _≤_, _<_}
-use mathlib.Core.Bool.{Bool, false, _&&_, cond}
+use mathlib.Core.Bool.{Bool, false, _&&_, _||_, cond}
 use mathlib.Core.List.{List, [], _∷_}
 use lib.Dec.{leb, ltb, eqb}
 use lib.IntN.{ℤ, pos, negsuc}
@@ -23,7 +23,7 @@ use Rattle.frame.specs.declared.Value.the-variants.{Double, Fault}
 
 -- ---- line 01
 
--- "row is nu, column N; value bytes are nx, b, W, 0, sweeps in two bytes, 0, 0"
+-- "row is nu, column N; value bytes are nx, b, W, .., sweeps in two bytes, 0, 0", and "the fourth value byte" is nr
 abbrev pub frameSizes : ℕ → ℕ → ℕ → Sizes
 frameSizes row column bits = record {
   nu = row;
@@ -32,13 +32,14 @@ frameSizes row column bits = record {
   b = bits / 0x1_0000_0000_0000 % 256;
   w = bits / 0x100_0000_0000 % 256;
   sweeps = bits / 65536 % 65536;
+  nr = bits / 0x1_0000_0000 % 256;
 }
 
--- "the three 0 bytes are 0"
+-- "the other two 0 bytes" are 0
 abbrev pub frameZeros : ℕ → Bool
-frameZeros bits = eqb (bits / 0x1_0000_0000 % 256) 0 && eqb (bits % 65536) 0
+frameZeros bits = eqb (bits % 65536) 0
 
--- what line 01 gives: its number is that of the line, or 2 ("for 01 only the kind, and that the three 0 bytes are 0"), or 3
+-- what line 01 gives: its number is that of the line, or 2 ("for 01 only the kind", and now "only the other two 0 bytes"), or 3
 unfoldable pub headOf : Line → Head
 headOf End = Unsized (lineNumber End)
 headOf Malformed = Unsized (lineNumber Malformed)
@@ -58,7 +59,8 @@ abbrev pub table : ℕ → ℕ → ℕ → Table
 table k r c = record { kind = k; rows = r; columns = c }
 
 -- "02: cost table H, n by n. 03: state table Φ, n by nx. 04 low limit and 05 high limit, row the motor, column 0; all 04 first. 06 step
--- factor β, row and column 0. 07 state limit, row the state, column 0."
+-- factor β, row and column 0. 07 state limit, row the state, column 0." "After 07 come kind 08, a target table of n by nr, .. and kind 09,
+-- target limits, treated as 07"
 abbrev pub tables : Sizes → List Table
 tables z =
     table 2 (commandCount z) (commandCount z)
@@ -67,6 +69,8 @@ tables z =
     ∷ table 5 (z .nu) 1
     ∷ table 6 1 1
     ∷ table 7 (z .nx) 1
+    ∷ table 8 (commandCount z) (z .nr)
+    ∷ table 9 (z .nr) 1
     ∷ []
 
 -- how many lines some tables have
@@ -101,11 +105,15 @@ isLow z k = (lowBase z ≤ k) × (k < lowBase z + z .nu)
 
 -- ---- one such line
 
--- "02 and 03 down, 04 up, 05 down, 06 up, 07 up"
+-- "02 and 03 down, 04 up, 05 down, 06 up, 07 up", 08 "rounded as 03", 09 "as 07"
 abbrev pub roundingOf : ℕ → Rounding
-roundingOf kind = cond (leb kind 3) Down (cond (eqb kind 5) Down Up)
+roundingOf kind = cond (leb kind 3) Down (cond (eqb kind 5) Down (cond (eqb kind 8) Down Up))
 
--- not "a state limit below 0 once rounded"
+-- a limit of the state, 07, or of the target, 09, "treated as 07"
+abbrev pub isInputLimit : ℕ → Bool
+isInputLimit kind = eqb kind 7 || eqb kind 9
+
+-- not such a limit "below 0 once rounded"
 abbrev pub notBelowZero : Converted → Converted
 notBelowZero (Word (pos n)) = Word (pos n)
 notBelowZero (Word (negsuc n)) = Refused
@@ -114,7 +122,7 @@ notBelowZero Refused = Refused
 -- the double of a line of some kind "scaled by 2^b .. and then rounded"
 unfoldable pub wordOf : Sizes → ℕ → Float → Converted
 wordOf z kind x =
-    cond (eqb kind 7) (notBelowZero (convert (ruleOf (roundingOf kind)) (z .b) (z .w) x)) (convert (ruleOf (roundingOf kind)) (z .b) (z .w) x)
+    cond (isInputLimit kind) (notBelowZero (convert (ruleOf (roundingOf kind)) (z .b) (z .w) x)) (convert (ruleOf (roundingOf kind)) (z .b) (z .w) x)
 
 -- the word of a conversion; 0 where there is none
 abbrev pub convertedWord : Converted → ℤ

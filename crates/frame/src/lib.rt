@@ -38,6 +38,7 @@ fn frame_sizes(row: usize, column: usize, bits: u64) -> Sizes
         b: (bits / 0x1_0000_0000_0000 % 256) as u32,
         w: (bits / 0x100_0000_0000 % 256) as u32,
         sweeps: (bits / 65536 % 65536) as usize,
+        nr: (bits / 0x1_0000_0000 % 256) as usize,
     }
 }
 
@@ -53,9 +54,6 @@ pub fn head_of(l: Line) -> Head
             bits,
         } => {
             if kind != 1 {
-                return Head::Unsized(2);
-            }
-            if bits / 0x1_0000_0000 % 256 != 0 {
                 return Head::Unsized(2);
             }
             if bits % 65536 != 0 {
@@ -106,7 +104,16 @@ pub fn due_at(z: Sizes, i: usize) -> Due
     if i < 1 {
         return frame_due(6, 0, 0);
     }
-    frame_due(7, i - 1, 0)
+    let i = i - 1;
+    if i < nx {
+        return frame_due(7, i, 0);
+    }
+    let i = i - nx;
+    let nr = z.nr;
+    if i < n * nr {
+        return frame_due(8, i / nr, i % nr);
+    }
+    frame_due(9, i - n * nr, 0)
 }
 
 // How a value of a kind is rounded.
@@ -117,13 +124,16 @@ fn rounding(kind: usize) -> Rounding
         return Rounding::Down;
     }
     if kind == 5 {
+        return Rounding::Down;
+    }
+    if kind == 8 {
         Rounding::Down
     } else {
         Rounding::Up
     }
 }
 
-// A state limit's word is not negative.
+// The word of a limit of the state or the target is not negative.
 fn not_below_zero(c: Converted) -> Converted
     ensures { λ r. ⌜ r ≡ notBelowZero c ⌝ }
 {
@@ -138,7 +148,10 @@ pub fn word_of(z: Sizes, kind: usize, x: f64) -> Converted
     ensures { λ r. ⌜ r ≡ wordOf z kind x ⌝ }
 {
     let c = double::to_word(x, z.b, z.w, rounding(kind));
-    if kind == 7 { not_below_zero(c) } else { c }
+    if kind == 7 {
+        return not_below_zero(c);
+    }
+    if kind == 9 { not_below_zero(c) } else { c }
 }
 
 // What a line gives where d is due.

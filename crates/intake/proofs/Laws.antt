@@ -40,7 +40,7 @@ pub same-intake : (s t : List ℕ) → take (reach s) s ≡ take (reach s) t →
 unfolding intakeNumber
 same-intake s t e room = rw (same-number s t e, same-image s t e)
 
-pub enough-number : (s : List ℕ) (m : ℕ) → 10811 ≤ m → (room : ℕ) → intakeNumber (take m s) room ≡ intakeNumber s room
+pub enough-number : (s : List ℕ) (m : ℕ) → 12375 ≤ m → (room : ℕ) → intakeNumber (take m s) room ≡ intakeNumber s room
 unfolding intakeNumber
 enough-number s m h room = rw (enough-lines s m h, enough-image s m h)
 

@@ -8,10 +8,10 @@ ghost use Rattle.word.specs.Word.{wordsOut};
 ghost use Rattle.intake.specs.Intake.{ownTables, intakeNumber, intakeImage, ImageWords};
 
 // Room for the largest image. A call, since a literal array would stand in every goal.
-pub fn blank_image() -> [u8; 1908]
-    ensures { λ r. ⌜ length r ≡ 1908 ⌝ }
+pub fn blank_image() -> [u8; 2180]
+    ensures { λ r. ⌜ length r ≡ 2180 ⌝ }
 {
-    [0u8; 1908]
+    [0u8; 2180]
 }
 
 // Checks 7 to 12. They stand once, on an image's bytes, so the words are written to a buffer first.

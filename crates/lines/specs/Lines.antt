@@ -31,13 +31,13 @@ lineWord z s i = convertedWord (wordOf z (dueAt z i .kind) (lineDouble z s i))
 
 -- ---- what the code holds
 
--- "nu, N, nx, b, W, sweeps, 0, 0"
+-- "nu, N, nx, b, W, sweeps", then nr as "image word 6", and 0
 abbrev pub sizeWords : Sizes → List ℤ
-sizeWords z = pos (z .nu) ∷ pos (z .steps) ∷ pos (z .nx) ∷ pos (z .b) ∷ pos (z .w) ∷ pos (z .sweeps) ∷ pos 0 ∷ pos 0 ∷ []
+sizeWords z = pos (z .nu) ∷ pos (z .steps) ∷ pos (z .nx) ∷ pos (z .b) ∷ pos (z .w) ∷ pos (z .sweeps) ∷ pos (z .nr) ∷ pos 0 ∷ []
 
 -- i lines are read: every word stands in the array but the lows whose high is still to come, and these are kept as doubles
 pub record ReadTo (z : Sizes) (s : List ℕ) (i : ℕ) (words : List ℤ) (lows : List Float) : Type 0 where
-  pub size : length words ≡ 477
+  pub size : length words ≡ 545
   pub room : length lows ≡ 4
   pub passed : (k : ℕ) → k < i → lineFault z s k ≡ 0
   pub head : (k : ℕ) → k < 8 → getD words k (pos 0) ≡ getD (sizeWords z) k (pos 0)

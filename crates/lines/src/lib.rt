@@ -11,7 +11,7 @@ use frame::Value;
 use image::Sizes;
 
 // Reads line i after line 01. A low limit is kept as a double until its high limit is read; any other word is stored.
-pub fn take_line(words: &mut [i64; 477], lows: &mut [f64; 4], s: &[u8], z: Sizes, i: usize) -> u32
+pub fn take_line(words: &mut [i64; 545], lows: &mut [f64; 4], s: &[u8], z: Sizes, i: usize) -> u32
     requires { ⌜ Sound z × (i < total z) × ReadTo z (now s) i (now words) (now lows) ⌝ }
     ensures { λ r. ⌜ (r ≡ lineFault z (now (s .entry)) i) × (r ≡ 0 → ReadTo z (now (s .entry)) (i + 1) (now (words .exit)) (now (lows .exit))) ⌝ }
 {

@@ -21,7 +21,7 @@ use Rattle.gradient.specs.Index.{tab}
 use Rattle.gradient.proofs.Index.{tab-length, tab-at}
 use Rattle.image.specs.Sizes.{Sound}
 use Rattle.image.specs.declared.Sizes.{Sizes}
-use Rattle.frame.specs.Frame.{dueAt, total}
+use Rattle.frame.specs.Frame.{dueAt, isInputLimit, total}
 use Rattle.frame.proofs.Word.{limit-in, word-in}
 use Rattle.lines.specs.Lines.{lineDouble, lineWord, sizeWords}
 use Rattle.sheet.specs.Sheet.{linesWords}
@@ -32,9 +32,9 @@ module _ (z : Sizes) (s : List ℕ) (k : ℕ) where
   unfolding lineWord
   line-word-in = word-in z (dueAt z k .kind) (lineDouble z s k)
 
-  pub state-limit : dueAt z k .kind ≡ 7 → leZ (pos 0) (lineWord z s k) ≡ true
+  pub input-limit : isInputLimit (dueAt z k .kind) ≡ true → leZ (pos 0) (lineWord z s k) ≡ true
   unfolding lineWord
-  state-limit e = limit-in z (dueAt z k .kind) (lineDouble z s k) e
+  input-limit e = limit-in z (dueAt z k .kind) (lineDouble z s k) e
 
 in-fits : (w : ℕ) (v : ℤ) → w ≤ 32 → inWord w v ≡ true → SFits w32 v
 in-fits w v l h = sfits-abs v (in-word-abs w v h) (top-high w l)
@@ -66,5 +66,5 @@ pub lines-fit : (z : Sizes) (s : List ℕ) → Sound z → Words (linesWords z s
 lines-fit z s o =
     append-fits (sizeWords z) (tab (lineWord z s) (total z))
     (fit-words (sizeWords z) (more (low (z .nu) (omega arith)) (more (low (z .steps) (omega arith)) (more (low (z .nx) (omega arith)) (more (low (z .b) (omega arith))
-    (more (low (z .w) (omega arith)) (more (low (z .sweeps) (omega arith)) (more (low 0 (omega arith)) (more (low 0 (omega arith)) end)))))))))
+    (more (low (z .w) (omega arith)) (more (low (z .sweeps) (omega arith)) (more (low (z .nr) (omega arith)) (more (low 0 (omega arith)) end)))))))))
     (λ i h. rw (tab-at (lineWord z s) (total z) i (pos 0) (omega (arith, tab-length (lineWord z s) (total z)))) (in-fits (z .w) (lineWord z s i) (o .w-high) (line-word-in z s i)))

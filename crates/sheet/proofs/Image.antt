@@ -17,19 +17,21 @@ use Rattle.word.proofs.Words.{length-words, word-of-words, nat-of-words}
 use Rattle.gradient.specs.Index.{tab, allTo}
 use Rattle.gradient.proofs.Index.{tab-at}
 use Rattle.gradient.proofs.Tests.{all-of}
-use Rattle.image.specs.Sizes.{commandCount, bodyCount, sound, Sound, Whole}
-use Rattle.image.specs.Layout.{sizesOf, boundAt, boundPlace}
+use Rattle.image.specs.Sizes.{commandCount, inputCount, bodyCount, sound, Sound, Whole}
+use Rattle.image.specs.Layout.{sizesOf, boundAt, boundPlace, boundsFrom, targetBoundPlace}
 use Rattle.image.specs.Checks.{headNumber, bodyNumber, wordTest, boundTest}
 use Rattle.image.specs.declared.Sizes.{Sizes}
+use Rattle.image.specs.declared.Input.{Input}
+use Rattle.image.specs.declared.Input.the-variants.{State, Target}
 use Rattle.line.specs.Line.{lineAt}
 use Rattle.frame.specs.declared.Due.{Due}
-use Rattle.frame.specs.Frame.{dueAt, total}
+use Rattle.frame.specs.Frame.{dueAt, isInputLimit, total}
 use Rattle.frame.proofs.Sized.{head-sound, head-true}
-use Rattle.frame.proofs.Laws.{due-7, total-is}
+use Rattle.frame.proofs.Laws.{due-7, due-9, total-is}
 use Rattle.lines.specs.Lines.{lineWord, sizeWords}
 use Rattle.sheet.specs.Sheet.{linesWords, sheetImage}
 use Rattle.sheet.proofs.Answer.{Passing}
-use Rattle.sheet.proofs.Fits.{line-word-in, lines-fit, state-limit}
+use Rattle.sheet.proofs.Fits.{input-limit, line-word-in, lines-fit}
 use Rattle.sheet.proofs.Whole.{long}
 
 -- ---- the image of lines with sound sizes
@@ -44,7 +46,7 @@ module _ (z : Sizes) (s : List ℕ) (o : Sound z) where
 
   pub line-sizes : sizesOf image ≡ z
   unfolding sizesOf
-  line-sizes = rw (size-at 0 (omega arith), size-at 1 (omega arith), size-at 2 (omega arith), size-at 3 (omega arith), size-at 4 (omega arith), size-at 5 (omega arith))
+  line-sizes = rw (size-at 0 (omega arith), size-at 1 (omega arith), size-at 2 (omega arith), size-at 3 (omega arith), size-at 4 (omega arith), size-at 5 (omega arith), size-at 6 (omega arith))
 
   pub line-size : length image ≡ 4 * (8 + bodyCount z)
   line-size = length-words (linesWords z s) ∙ ap (λ (k : ℕ). 4 * k) (long z s ∙ ap (λ (k : ℕ). 8 + k) (total-is z))
@@ -60,27 +62,35 @@ module _ (z : Sizes) (s : List ℕ) (o : Sound z) where
   line-head : sound z ≡ true → headNumber image ≡ 0
   unfolding headNumber
   line-head e =
-      rw (line-sizes, le-leb 32 (length image) (omega (arith, line-size)), e, eq-eqb (natAt image 24) 0 (size-at 6 (omega arith)), eq-eqb (natAt image 28) 0 (size-at 7 (omega arith)), eq-eqb (length image) (4 * (8 + bodyCount z)) line-size)
+      rw (line-sizes, le-leb 32 (length image) (omega (arith, line-size)), e, eq-eqb (natAt image 28) 0 (size-at 7 (omega arith)), eq-eqb (length image) (4 * (8 + bodyCount z)) line-size)
 
   -- check 5
   line-words : allTo (wordTest z image) (bodyCount z) ≡ true
   line-words = all-of (wordTest z image) (bodyCount z) (λ i h. rw (line-word i h) (line-word-in z s i))
 
-  line-bounds : allTo (boundTest z image) (z .nx) ≡ true
+  -- a limit of an input, by its line
+  line-limit : (i at : ℕ) → i < bodyCount z → isInputLimit (dueAt z i .kind) ≡ true → at ≡ 4 * (8 + i) → leZ (pos 0) (wordAt image at) ≡ true
+  line-limit i at h k e = rw (e, line-word i h) (input-limit z s i k)
+
+  line-bounds : (v : Input) → allTo (boundTest v z image) (inputCount v z) ≡ true
   unfolding boundAt
-  line-bounds = all-of (boundTest z image) (z .nx) (λ j h. at j h)
+  line-bounds v = all-of (boundTest v z image) (inputCount v z) (λ j h. at v j h)
     where
-      at : (j : ℕ) → j < z .nx → leZ (pos 0) (wordAt image (boundPlace z + 4 * j)) ≡ true
-      at j h =
+      at : (v : Input) (j : ℕ) → j < inputCount v z → leZ (pos 0) (wordAt image (boundsFrom v z + 4 * j)) ≡ true
+      at State j h =
           let n = commandCount z in
           let i = n * n + n * z .nx + 2 * z .nu + 1 + j in
-          let e : boundPlace z + 4 * j ≡ 4 * (8 + i) = omega arith in
-          let k : dueAt z i .kind ≡ 7 = ap (λ (d : Due). d .kind) (sym (due-7 z i (omega arith) (omega arith) (omega arith) (omega arith) (omega arith) (omega (arith, total-is z)))) in
-          rw (e, line-word i (omega arith)) (state-limit z s i k)
+          line-limit i (boundPlace z + 4 * j) (omega arith)
+          (ap (λ (d : Due). isInputLimit (d .kind)) (sym (due-7 z i (omega arith) (omega arith) (omega arith) (omega arith) (omega arith) (omega arith)))) (omega arith)
+      at Target j h =
+          let n = commandCount z in
+          let i = n * n + n * z .nx + 2 * z .nu + 1 + z .nx + n * z .nr + j in
+          line-limit i (targetBoundPlace z + 4 * j) (omega arith)
+          (ap (λ (d : Due). isInputLimit (d .kind)) (sym (due-9 z i (omega arith) (omega arith) (omega arith) (omega arith) (omega arith) (omega arith) (omega arith) (omega (arith, total-is z))))) (omega arith)
 
   line-body : bodyNumber z image ≡ 0
   unfolding bodyNumber
-  line-body = rw (line-words, line-bounds)
+  line-body = rw (line-words, line-bounds State, line-bounds Target)
 
 -- ---- the image of a sheet that passes
 module _ (s : List ℕ) (p : Passing s) where

@@ -41,12 +41,12 @@ module _ (f : ℕ → ℕ) where
 pub long : (z : Sizes) (s : List ℕ) → length (linesWords z s) ≡ 8 + total z
 long z s = omega (arith, length-append (sizeWords z) (tab (lineWord z s) (total z)), tab-length (lineWord z s) (total z))
 
-pub read-start : (z : Sizes) (s : List ℕ) (ls : List Float) → length ls ≡ 4 → ReadTo z s 0 (sizeWords z ++ replicate 469 (pos 0)) ls
+pub read-start : (z : Sizes) (s : List ℕ) (ls : List Float) → length ls ≡ 4 → ReadTo z s 0 (sizeWords z ++ replicate 537 (pos 0)) ls
 read-start z s ls h = record {
   size = refl;
   room = h;
   passed = λ k l. absurd (not-suc-le-zero l);
-  head = λ k l. List·getD-append (sizeWords z) (replicate 469 (pos 0)) (pos 0) k l;
+  head = λ k l. List·getD-append (sizeWords z) (replicate 537 (pos 0)) (pos 0) k l;
   single = λ k l n. absurd (not-suc-le-zero l);
   paired = λ k l m. absurd (not-suc-le-zero m);
   kept = λ j l m. absurd (not-suc-le-zero m);

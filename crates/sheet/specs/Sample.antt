@@ -1,4 +1,4 @@
--- Worked sheets by computation: document 01's S, and S with a line or a byte changed. Assumes nothing.
+-- Worked sheets by computation: document 01's S, S with target values, and these with a line or a byte changed. Assumes nothing.
 use mathlib.Core.Path.{_≡_, refl}
 use mathlib.Core.List.{List, [], _∷_, _++_, map}
 use Prim.Native.Nat.{ℕ}
@@ -43,6 +43,27 @@ image-S : sheetImage (text lines) ≡
 unfolding isHex digitOf hexes hexAt digitByte hexDigits numberBE digitsBE bytesBE wordsOut ofBits floor scalable rounded accepted sound lineAt headOf total dueAt wordOf lineValue lineFault lineWord sheetNumber sheetWords sheetImage
 image-S = refl
 
+-- S with one target value: "a target table" of −24.5 counts, "rounded as 03", and a target limit of 10.5, "treated as 07"
+abbrev pub targetLines : List ℕ
+targetLines = set lines 0 0x0101010104080100030000 ++ (0x080000BFF8800000000000 ∷ 0x0900003FE5000000000000 ∷ [])
+
+abbrev pub targetChanged : ℕ → ℕ → List ℕ
+targetChanged k n = text (set targetLines k n)
+
+-- its image, 64 bytes
+image-target : sheetImage (text targetLines) ≡
+    0 ∷ 0 ∷ 0 ∷ 1 ∷ 0 ∷ 0 ∷ 0 ∷ 1 ∷ 0 ∷ 0 ∷ 0 ∷ 1 ∷ 0 ∷ 0 ∷ 0 ∷ 4 ∷ 0 ∷ 0 ∷ 0 ∷ 8 ∷ 0 ∷ 0 ∷ 0 ∷ 3 ∷ 0 ∷ 0 ∷ 0 ∷ 1 ∷ 0 ∷ 0 ∷ 0 ∷ 0
+    ∷ 0 ∷ 0 ∷ 0 ∷ 8 ∷ 0 ∷ 0 ∷ 0 ∷ 16 ∷ 255 ∷ 255 ∷ 255 ∷ 236 ∷ 0 ∷ 0 ∷ 0 ∷ 20 ∷ 0 ∷ 0 ∷ 0 ∷ 0 ∷ 0 ∷ 0 ∷ 0 ∷ 10
+    ∷ 255 ∷ 255 ∷ 255 ∷ 231 ∷ 0 ∷ 0 ∷ 0 ∷ 11 ∷ []
+unfolding isHex digitOf hexes hexAt digitByte hexDigits numberBE digitsBE bytesBE wordsOut ofBits floor scalable rounded accepted sound lineAt headOf total dueAt wordOf lineValue lineFault lineWord sheetNumber sheetWords sheetImage
+image-target = refl
+
+-- S with two: the columns of the target table, and the rows of the target limits
+abbrev pub twoTargets : ℕ → List ℕ
+twoTargets last =
+    text
+    (set lines 0 0x0101010104080200030000 ++ (0x0800003FF0000000000000 ∷ 0x0800013FF0000000000000 ∷ 0x0900003FE4000000000000 ∷ last ∷ []))
+
 -- ---- the number through lines and end, beside each sheet
 pub record Sample : Type 0 where
   pub number : ℕ
@@ -61,16 +82,37 @@ samples =
     ∷ sample 4 (text lines ++ (10 ∷ []))
     -- a lower-case digit
     ∷ sample 1 (set (text lines) 30 102)
-    -- another kind, row or column than due; a 0 byte of line 01 that is not 0
+    -- another kind, row or column than due; one of "the other two 0 bytes" of line 01 that is not 0, before a size
     ∷ sample 2 (changed 1 0x0300003FE0000000000000)
     ∷ sample 2 (changed 1 0x0201003FE0000000000000)
     ∷ sample 2 (changed 1 0x0200013FE0000000000000)
-    ∷ sample 2 (changed 0 0x0101010104080100030000)
+    ∷ sample 2 (changed 0 0x0101010104080000030100)
+    ∷ sample 2 (changed 0 0x0101010104080000030001)
+    ∷ sample 2 (changed 0 0x0101010104080500030100)
     -- nu 0, sweeps 0, 401 and 400
     ∷ sample 3 (changed 0 0x0100010104080000030000)
     ∷ sample 3 (changed 0 0x0101010104080000000000)
     ∷ sample 3 (changed 0 0x0101010104080001910000)
     ∷ sample 0 (changed 0 0x0101010104080001900000)
+    -- "nr, 0 to 4 target values, else 3": 5, 255, and 4 and 1, with which the first 08 is missing
+    ∷ sample 3 (changed 0 0x0101010104080500030000)
+    ∷ sample 3 (changed 0 0x010101010408FF00030000)
+    ∷ sample 4 (changed 0 0x0101010104080400030000)
+    ∷ sample 4 (changed 0 0x0101010104080100030000)
+    -- one target value, and two; with none a line 08 is one too many
+    ∷ sample 0 (text targetLines)
+    ∷ sample 0 (twoTargets 0x0901003FE4000000000000)
+    ∷ sample 2 (twoTargets 0x0900013FE4000000000000)
+    ∷ sample 4 (text (lines ++ (0x080000BFF8800000000000 ∷ [])))
+    -- "after 07 come kind 08 .. and kind 09": 08 before 07, 09 before 08, no 09, a second 09
+    ∷ sample 2 (targetChanged 6 0x080000BFF8800000000000)
+    ∷ sample 2 (targetChanged 7 0x0900003FE5000000000000)
+    ∷ sample 4 (take 184 (text targetLines))
+    ∷ sample 4 (text (targetLines ++ (0x0900003FE5000000000000 ∷ [])))
+    -- "target limits, treated as 07": −1 count and −0.5 counts; a target table outside the word
+    ∷ sample 5 (targetChanged 8 0x090000BFB0000000000000)
+    ∷ sample 0 (targetChanged 8 0x090000BFA0000000000000)
+    ∷ sample 5 (targetChanged 7 0x0800004020000000000000)
     -- "NaN, infinity, rounded value outside the word, or a state limit below 0 once rounded", which −0.5 counts is not
     ∷ sample 5 (changed 1 0x0200007FF8000000000000)
     ∷ sample 5 (changed 3 0x040000FFF0000000000000)

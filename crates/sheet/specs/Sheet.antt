@@ -28,7 +28,7 @@ endNumber z s = firstFault (check 4 (leb (length s) (23 * (total z + 1))) ∷ []
 abbrev pub linesNumber : Sizes → List ℕ → ℕ
 linesNumber z s = first (lineFault z s) (total z) (endNumber z s)
 
--- "then H, Φ, lows, highs, β, state limits in sheet order"
+-- "then H, Φ, lows, highs, β, state limits in sheet order", then target table and target limits: "the image follows in that order"
 abbrev pub linesWords : Sizes → List ℕ → List ℤ
 linesWords z s = sizeWords z ++ tab (lineWord z s) (total z)
 

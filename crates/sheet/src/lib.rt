@@ -16,21 +16,22 @@ use image::Sizes;
 pub struct Outcome {
     pub number: u32,
     pub count: usize,
-    pub words: [i64; 477],
+    pub words: [i64; 545],
 }
 
 // The array with the sizes in front.
-fn size_words(z: Sizes) -> [i64; 477]
+fn size_words(z: Sizes) -> [i64; 545]
     requires { ⌜ Sound z ⌝ }
-    ensures { λ r. ⌜ r ≡ sizeWords z ++ replicate 469 (pos 0) ⌝ }
+    ensures { λ r. ⌜ r ≡ sizeWords z ++ replicate 537 (pos 0) ⌝ }
 {
-    let mut r = [0i64; 477];
+    let mut r = [0i64; 545];
     r[0] = z.nu as i64;
     r[1] = z.steps as i64;
     r[2] = z.nx as i64;
     r[3] = z.b as i64;
     r[4] = z.w as i64;
     r[5] = z.sweeps as i64;
+    r[6] = z.nr as i64;
     r
 }
 
@@ -77,7 +78,7 @@ pub fn read_sheet(s: &[u8]) -> Outcome
         Head::Unsized(n) => Outcome {
             number: n,
             count: 0,
-            words: [0i64; 477],
+            words: [0i64; 545],
         },
     }
 }

@@ -1,7 +1,9 @@
 -- `frame::due_at` meets its contract: each test leads to its table. Assumes nothing.
+use native.Mathlib.Omega.{arith}
 use mathlib.Core.Path.{_∙_}
+use Prim.Native.Nat.{_≤_}
 use borrow.Author.Needs.{needs}
-use Rattle.frame.proofs.Laws.{due-2, due-3, due-4, due-5, due-6, due-7}
+use Rattle.frame.proofs.Laws.{due-2, due-3, due-4, due-5, due-6, due-7, due-8, due-9, some-columns}
 use Rattle.frame.proofs.due_at.Statement.{statement}
 use Rattle.frame.proofs.due_at.Tie as tie
 
@@ -83,8 +85,50 @@ frame-due-requires-6 c κs = search needs
 
 returns-6 : tie.Need-returns-6
 returns-6 c =
-    let a = c .before .before .before .before .before .before .before in
-    c .frame-due6 .ensures ∙ due-7 (a .args .z) (a .args .i) (c .before .before .before .before .before .if1 .left) (c .before .before .before .before .if2 .left) (c .before .before .before .if3 .left) (c .before .before .if4 .left) (c .before .if5 .left) (a .pre .1)
+    let t₅ = c .before .before in
+    let t₂ = t₅ .before .before .before in
+    let a = t₂ .before .before .before in
+    c .frame-due6 .ensures ∙ due-7 (a .args .z) (a .args .i) (t₂ .before .if1 .left) (t₂ .if2 .left) (t₅ .before .before .if3 .left) (t₅ .before .if4 .left) (t₅ .if5 .left) (c .before .if6 .taken)
+
+mul-if7 : tie.Need-mul-if7
+mul-if7 c = search needs
+
+-- a place in the target's table: it has columns
+module _ (c : tie.Then7) where
+  columns : 1 ≤ c .before .before .before .before .before .before .before .before .args .z .nr
+  columns = some-columns _ _ _ (c .if7 .taken)
+
+div-frame-due-3 : tie.Need-div-frame-due-3
+div-frame-due-3 c = omega (arith, columns c)
+
+rem-frame-due-3 : tie.Need-rem-frame-due-3
+rem-frame-due-3 c = omega (arith, columns c)
+
+frame-due-requires-7 : tie.Need-frame-due-requires-7
+frame-due-requires-7 c κs = search needs
+
+returns-7 : tie.Need-returns-7
+returns-7 c =
+    let t₅ = c .before .before .before in
+    let t₂ = t₅ .before .before .before in
+    let a = t₂ .before .before .before in
+    c .frame-due7 .ensures ∙ due-8 (a .args .z) (a .args .i) (t₂ .before .if1 .left) (t₂ .if2 .left) (t₅ .before .before .if3 .left) (t₅ .before .if4 .left) (t₅ .if5 .left) (c .before .before .if6 .left) (c .before .if7 .taken)
+
+mul-frame-due : tie.Need-mul-frame-due
+mul-frame-due c = search needs
+
+sub-frame-due : tie.Need-sub-frame-due
+sub-frame-due c = search needs
+
+frame-due-requires-8 : tie.Need-frame-due-requires-8
+frame-due-requires-8 c κs = search needs
+
+returns-8 : tie.Need-returns-8
+returns-8 c =
+    let t₅ = c .before .before .before in
+    let t₂ = t₅ .before .before .before in
+    let a = t₂ .before .before .before in
+    c .frame-due8 .ensures ∙ due-9 (a .args .z) (a .args .i) (t₂ .before .if1 .left) (t₂ .if2 .left) (t₅ .before .before .if3 .left) (t₅ .before .if4 .left) (t₅ .if5 .left) (c .before .before .if6 .left) (c .before .if7 .left) (a .pre .1)
 
 pub due-at-spec : {M : Type 1} → statement M
 due-at-spec =
@@ -112,4 +156,13 @@ due-at-spec =
     frame-due-requires-5
     returns-5
     frame-due-requires-6
-    returns-6)
+    returns-6
+    mul-if7
+    div-frame-due-3
+    rem-frame-due-3
+    frame-due-requires-7
+    returns-7
+    mul-frame-due
+    sub-frame-due
+    frame-due-requires-8
+    returns-8)

@@ -1,7 +1,7 @@
 -- `frame::head_of` meets its contract. Assumes nothing.
 use borrow.Author.Needs.{needs}
 use Rattle.frame.specs.Frame.{headOf}
-use Rattle.frame.proofs.Laws.{head-gap, head-kind, head-sized, head-tail, head-unsound}
+use Rattle.frame.proofs.Laws.{head-kind, head-sized, head-tail, head-unsound}
 use Rattle.frame.proofs.head_of.Statement.{statement}
 use Rattle.frame.proofs.head_of.Tie as tie
 
@@ -12,10 +12,7 @@ returns : tie.Need-returns
 returns c = head-kind _ _ _ _ _ (c .before .before .l .given .1) (c .if1 .taken)
 
 returns-2 : tie.Need-returns-2
-returns-2 c = head-gap _ _ _ _ _ (c .before .before .before .l .given .1) (c .before .if1 .left) (c .if2 .taken)
-
-returns-3 : tie.Need-returns-3
-returns-3 c = head-tail _ _ _ _ _ (c .before .before .before .before .l .given .1) (c .before .before .if1 .left) (c .before .if2 .left) (c .if3 .taken)
+returns-2 c = head-tail _ _ _ _ _ (c .before .before .before .l .given .1) (c .before .if1 .left) (c .if2 .taken)
 
 frame-sizes-requires : tie.Need-frame-sizes-requires
 frame-sizes-requires c κs = search needs
@@ -29,23 +26,23 @@ enum-told c = search needs
 enum-told-2 : tie.Need-enum-told-2
 enum-told-2 c = search needs
 
+returns-3 : tie.Need-returns-3
+returns-3 c =
+    let d = c .before .before .before in
+    head-sized _ _ _ _ _ _ _ (d .before .before .before .l .given .1) (d .before .if1 .left) (d .if2 .left) (c .before .before .frame-sizes .ensures) (c .before .is-sound .ensures) (c .if3 .taken)
+
 returns-4 : tie.Need-returns-4
 returns-4 c =
     let d = c .before .before .before in
-    head-sized _ _ _ _ _ _ _ (d .before .before .before .before .l .given .1) (d .before .before .if1 .left) (d .before .if2 .left) (d .if3 .left) (c .before .before .frame-sizes .ensures) (c .before .is-sound .ensures) (c .if4 .taken)
+    head-unsound _ _ _ _ _ _ _ (d .before .before .before .l .given .1) (d .before .if1 .left) (d .if2 .left) (c .before .before .frame-sizes .ensures) (c .before .is-sound .ensures) (c .if3 .left)
 
 returns-5 : tie.Need-returns-5
-returns-5 c =
-    let d = c .before .before .before in
-    head-unsound _ _ _ _ _ _ _ (d .before .before .before .before .l .given .1) (d .before .before .if1 .left) (d .before .if2 .left) (d .if3 .left) (c .before .before .frame-sizes .ensures) (c .before .is-sound .ensures) (c .if4 .left)
+unfolding headOf
+returns-5 c = rw (c .enum-told .given .1)
 
 returns-6 : tie.Need-returns-6
 unfolding headOf
-returns-6 c = rw (c .enum-told .given .1)
-
-returns-7 : tie.Need-returns-7
-unfolding headOf
-returns-7 c = rw (c .enum-told2 .given .1)
+returns-6 c = rw (c .enum-told2 .given .1)
 
 pub head-of-spec : {M : Type 1} → statement M
 head-of-spec =
@@ -54,12 +51,11 @@ head-of-spec =
     enum-known-l
     returns
     returns-2
-    returns-3
     frame-sizes-requires
     is-sound-requires
     enum-told
     enum-told-2
+    returns-3
     returns-4
     returns-5
-    returns-6
-    returns-7)
+    returns-6)

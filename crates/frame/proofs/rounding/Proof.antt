@@ -10,7 +10,10 @@ returns-2 : tie.Need-returns-2
 returns-2 c = rw (lt-leb _ 3 (c .before .if1 .left), eq-eqb _ 5 (c .if2 .taken))
 
 returns-3 : tie.Need-returns-3
-returns-3 c = rw (lt-leb _ 3 (c .before .if1 .left), ne-eqb _ 5 (c .if2 .left))
+returns-3 c = rw (lt-leb _ 3 (c .before .before .if1 .left), ne-eqb _ 5 (c .before .if2 .left), eq-eqb _ 8 (c .if3 .taken))
+
+returns-4 : tie.Need-returns-4
+returns-4 c = rw (lt-leb _ 3 (c .before .before .if1 .left), ne-eqb _ 5 (c .before .if2 .left), ne-eqb _ 8 (c .if3 .left))
 
 pub rounding-spec : {M : Type 1} → statement M
-rounding-spec = tie.close (tie.spec returns returns-2 returns-3)
+rounding-spec = tie.close (tie.spec returns returns-2 returns-3 returns-4)

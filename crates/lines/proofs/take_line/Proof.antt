@@ -23,7 +23,7 @@ module _ (c : tie.After-due-at) where
   abbrev a : tie.Start
   a = c .before .before
 
-  small : a .args .i < 469
+  small : a .args .i < 537
   small = omega (arith, total-high (a .args .z) (a .pre .0), a .pre .1)
 
 -- the line's double was read

@@ -46,12 +46,18 @@ cast-r-6 c = search needs
 array-set-from-r-6 : tie.Need-array-set-from-r-6
 array-set-from-r-6 c = search needs
 
+cast-r-7 : tie.Need-cast-r-7
+cast-r-7 c = search needs
+
+array-set-from-r-7 : tie.Need-array-set-from-r-7
+array-set-from-r-7 c = search needs
+
 returns : tie.Need-returns
 returns c =
-    let o = c .before .before .before .before .before .before .pre in
-    let z = c .before .before .before .before .before .before .args .z in
+    let o = c .before .before .before .before .before .before .before .pre in
+    let z = c .before .before .before .before .before .before .before .args .z in
     let e : (n : ℕ) → n < 1000 → toZ w64 n ≡ pos n = λ n h. toZ-pos w64 (omega arith) in
-    rw (e (z .nu) (omega arith), e (z .steps) (omega arith), e (z .nx) (omega arith), e (z .b) (omega arith), e (z .w) (omega arith), e (z .sweeps) (omega arith))
+    rw (e (z .nu) (omega arith), e (z .steps) (omega arith), e (z .nx) (omega arith), e (z .b) (omega arith), e (z .w) (omega arith), e (z .sweeps) (omega arith), e (z .nr) (omega arith))
 
 pub size-words-spec : {M : Type 1} → statement M
 size-words-spec =
@@ -69,4 +75,6 @@ size-words-spec =
     array-set-from-r-5
     cast-r-6
     array-set-from-r-6
+    cast-r-7
+    array-set-from-r-7
     returns)
