@@ -9,14 +9,14 @@ use Rattle.double.specs.Double.{scalable, rounded, accepted}
 use Rattle.gradient.specs.Problem.{F, coldStart}
 use Rattle.gradient.specs.Scheme.{linear, unclamped, nextZ, nextY, step, iterate}
 use Rattle.gradient.specs.Bounds.{magnitude, width, rangeP, rangeY, rangeA, rangeB, slack, weight, nextE, nextQ, errorStep, errorAfter}
-use Rattle.gradient.specs.Demand.{every, every2, inputsWithin, startWithin}
+use Rattle.gradient.specs.Demand.{every, every2, startWithin}
 use Rattle.image.specs.Sizes.{sound}
 use Rattle.image.specs.Layout.{sizesOf, lowerAt, upperAt, momentumAt, boundAt, entryOf, commandAt, problemAt, problemOf}
 use Rattle.image.specs.Checks.{headNumber, bodyNumber}
 use Rattle.interface.specs.Tables.{symmetryTest, othersAt, marginAt, totalAt, leastMargin, largestTotal, momentumRange, momentumRatio, pointTest, rowTest, tablesNumber, imageNumber}
-use Rattle.interface.specs.Calls.{inputsOf, startOf, coldAnswer, callNumber, solveNumber, commandsAfter, boundsAfter}
-use Rattle.cases.specs.Cases.{holds, table, S, two}
+use Rattle.interface.specs.Calls.{valuesOf, inputsOf, startOf, coldAnswer, valuesWithin, callNumber, solveNumber, commandsAfter, boundsAfter}
+use Rattle.cases.specs.Cases.{holds, table, S, two, following}
 
 pub starred : every holds table ≡ true
-unfolding floor ceil clamp numberBE digitsBE natBE bytesBE wordsAt wordsOut scalable rounded accepted ofBits F coldStart linear unclamped nextZ nextY step iterate magnitude width rangeP rangeY rangeA rangeB slack weight nextE nextQ errorStep errorAfter every every2 inputsWithin startWithin sound sizesOf lowerAt upperAt momentumAt boundAt entryOf commandAt problemAt problemOf headNumber bodyNumber symmetryTest othersAt marginAt totalAt leastMargin largestTotal momentumRange momentumRatio pointTest rowTest tablesNumber imageNumber inputsOf startOf coldAnswer callNumber solveNumber commandsAfter boundsAfter holds table S two
+unfolding floor ceil clamp numberBE digitsBE natBE bytesBE wordsAt wordsOut scalable rounded accepted ofBits F coldStart linear unclamped nextZ nextY step iterate magnitude width rangeP rangeY rangeA rangeB slack weight nextE nextQ errorStep errorAfter every every2 startWithin sound sizesOf lowerAt upperAt momentumAt boundAt entryOf commandAt problemAt problemOf headNumber bodyNumber symmetryTest othersAt marginAt totalAt leastMargin largestTotal momentumRange momentumRatio pointTest rowTest tablesNumber imageNumber valuesOf inputsOf startOf coldAnswer valuesWithin callNumber solveNumber commandsAfter boundsAfter holds table S two following
 starred = refl

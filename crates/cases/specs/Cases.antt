@@ -1,5 +1,5 @@
--- Document 01, "Cases at the edges": "the starred cases together form one table". Each line is one case; `holds` says what is computed
--- of it, over the definitions that the calls' promises cite. Assumes nothing.
+-- Document 01, "Cases at the edges": "the starred cases together form one table", and those of the change requests stand with them. Each
+-- line is one case; `holds` says what is computed of it, over the definitions that the calls' promises cite. Assumes nothing.
 use mathlib.Core.Bool.{Bool, not, _&&_}
 use mathlib.Core.List.{List, [], _∷_, _++_, map}
 use Prim.Native.Nat.{ℕ}
@@ -14,23 +14,23 @@ use Rattle.interface.specs.Calls.{coldAnswer, solveNumber, commandsAfter, bound
 
 -- a case, and what the document says of it
 pub data Case : Type 0 where
-  -- an image, a state, sweeps s: from the cold start, the command and the bound after s
-  solves : List ℕ → ℤ → ℕ → ℤ → ℕ → Case
+  -- an image, a state, a target, sweeps s: from the cold start, the command and the bound after s
+  solves : List ℕ → ℤ → List ℤ → ℕ → ℤ → ℕ → Case
   -- an image has a number
   numbers : List ℕ → ℕ → Case
   -- an image does not have a number
   passes : List ℕ → ℕ → Case
-  -- a solve on an image from its cold start with a state has a number
-  answers : List ℕ → ℤ → ℕ → Case
+  -- a solve on an image from its cold start with a state and a target has a number
+  answers : List ℕ → ℤ → List ℤ → ℕ → Case
   -- a double (its bits) becomes a word by a rule
   converts : (ℤ → ℕ → ℤ) → ℕ → ℤ → Case
 
 unfoldable pub holds : Case → Bool
-holds (solves image x s z e) =
-    every2 eqZ (commandsAfter image (wordsOut (x ∷ [])) (coldAnswer image) s) (z ∷ []) && every2 eqb (boundsAfter image s) (e ∷ [])
+holds (solves image x t s z e) =
+    every2 eqZ (commandsAfter image (wordsOut (x ∷ [])) (wordsOut t) (coldAnswer image) s) (z ∷ []) && every2 eqb (boundsAfter image s) (e ∷ [])
 holds (numbers image n) = eqb (imageNumber image) n
 holds (passes image n) = not (eqb (imageNumber image) n)
-holds (answers image x n) = eqb (solveNumber image (wordsOut (x ∷ [])) (coldAnswer image) 8) n
+holds (answers image x t n) = eqb (solveNumber image (wordsOut (x ∷ [])) (wordsOut t) (coldAnswer image) 8) n
 holds (converts rule bits z) = eqb (conversionNumber rule 4 8 (ofBits binary64 bits)) 0 && eqZ (rounded rule 4 (ofBits binary64 bits)) z
 
 -- ---- the images: "all have b 4, W 8"
@@ -44,24 +44,29 @@ unfoldable pub two : ℕ → ℕ → ℕ → List ℕ
 two d o beta =
     wordsOut (map pos (1 ∷ 2 ∷ 1 ∷ 4 ∷ 8 ∷ 3 ∷ 0 ∷ 0 ∷ d ∷ o ∷ o ∷ d ∷ 16 ∷ 16 ∷ []) ++ (negsuc 19 ∷ map pos (20 ∷ beta ∷ 10 ∷ [])))
 
+-- S with one target value of limit `bound`, and −1 as its entry of the target table: h is the state less the target
+unfoldable pub following : ℕ → List ℕ
+following bound =
+    wordsOut (map pos (1 ∷ 1 ∷ 1 ∷ 4 ∷ 8 ∷ 3 ∷ 1 ∷ 0 ∷ 8 ∷ 16 ∷ []) ++ (negsuc 19 ∷ map pos (20 ∷ 0 ∷ 10 ∷ []) ++ (negsuc 15 ∷ pos bound ∷ [])))
+
 -- ---- the table
 unfoldable pub table : List Case
 table =
     -- S, sweeps 1 to 5
-    solves (S 0 20 10) (pos 10) 1 (negsuc 9) 1
-    ∷ solves (S 0 20 10) (pos 10) 2 (negsuc 14) 2
-    ∷ solves (S 0 20 10) (pos 10) 3 (negsuc 17) 3
-    ∷ solves (S 0 20 10) (pos 10) 4 (negsuc 18) 3
-    ∷ solves (S 0 20 10) (pos 10) 5 (negsuc 19) 3
+    solves (S 0 20 10) (pos 10) [] 1 (negsuc 9) 1
+    ∷ solves (S 0 20 10) (pos 10) [] 2 (negsuc 14) 2
+    ∷ solves (S 0 20 10) (pos 10) [] 3 (negsuc 17) 3
+    ∷ solves (S 0 20 10) (pos 10) [] 4 (negsuc 18) 3
+    ∷ solves (S 0 20 10) (pos 10) [] 5 (negsuc 19) 3
     -- S with β 8 counts, sweeps 1 to 4
-    ∷ solves (S 8 20 10) (pos 10) 1 (negsuc 9) 1
-    ∷ solves (S 8 20 10) (pos 10) 2 (negsuc 17) 3
-    ∷ solves (S 8 20 10) (pos 10) 3 (negsuc 19) 4
-    ∷ solves (S 8 20 10) (pos 10) 4 (negsuc 19) 6
+    ∷ solves (S 8 20 10) (pos 10) [] 1 (negsuc 9) 1
+    ∷ solves (S 8 20 10) (pos 10) [] 2 (negsuc 17) 3
+    ∷ solves (S 8 20 10) (pos 10) [] 3 (negsuc 19) 4
+    ∷ solves (S 8 20 10) (pos 10) [] 4 (negsuc 19) 6
     -- S with limits −1 and 1 counts, sweeps 1 to 3
-    ∷ solves (S 0 1 10) (pos 10) 1 (negsuc 0) 1
-    ∷ solves (S 0 1 10) (pos 10) 2 (negsuc 0) 2
-    ∷ solves (S 0 1 10) (pos 10) 3 (negsuc 0) 2
+    ∷ solves (S 0 1 10) (pos 10) [] 1 (negsuc 0) 1
+    ∷ solves (S 0 1 10) (pos 10) [] 2 (negsuc 0) 2
+    ∷ solves (S 0 1 10) (pos 10) [] 3 (negsuc 0) 2
     -- S with state limit 117 counts is accepted, with 118 refused 12
     ∷ numbers (S 0 20 117) 0
     ∷ numbers (S 0 20 118) 12
@@ -75,6 +80,21 @@ table =
     ∷ converts roundDown 0x3FA0000000000000 (pos 0)
     ∷ converts roundDown 0xBFA0000000000000 (negsuc 0)
     -- state 10 passes 13 in S, 11 does not
-    ∷ answers (S 0 20 10) (pos 10) 0
-    ∷ answers (S 0 20 10) (pos 11) 13
+    ∷ answers (S 0 20 10) (pos 10) [] 0
+    ∷ answers (S 0 20 10) (pos 11) [] 13
+    -- request 1: a target of 5 counts leaves h 5, sweeps 1 to 3, with c 2; the state's own value as target leaves 0
+    ∷ solves (following 10) (pos 10) (pos 5 ∷ []) 1 (negsuc 4) 2
+    ∷ solves (following 10) (pos 10) (pos 5 ∷ []) 2 (negsuc 7) 4
+    ∷ solves (following 10) (pos 10) (pos 5 ∷ []) 3 (negsuc 8) 5
+    ∷ solves (following 10) (pos 10) (pos 10 ∷ []) 3 (pos 0) 5
+    -- A is 10 and the state's part of B 10: a target limit of 107 counts is accepted, 108 refused 12
+    ∷ numbers (following 107) 0
+    ∷ numbers (following 108) 12
+    -- 16: a value beyond its limit, none, one too many; with nr 0 one; 13 comes first
+    ∷ answers (following 10) (pos 10) (negsuc 9 ∷ []) 0
+    ∷ answers (following 10) (pos 10) (negsuc 10 ∷ []) 16
+    ∷ answers (following 10) (pos 10) [] 16
+    ∷ answers (following 10) (pos 10) (pos 0 ∷ pos 0 ∷ []) 16
+    ∷ answers (S 0 20 10) (pos 10) (pos 0 ∷ []) 16
+    ∷ answers (S 0 20 10) (pos 11) (pos 0 ∷ []) 13
     ∷ []

@@ -31,14 +31,20 @@ pub extern "C" fn gantry_cold_start(image: &[u8], start: &mut [u8]) -> u32
 
 // Runs the image's sweeps from a start, and writes the commands and their bounds.
 #[no_mangle]
-pub extern "C" fn gantry_solve(image: &[u8], state: &[u8], start: &[u8], answer: &mut [u8]) -> u32
-    ensures number { λ r. ⌜ r ≡ solveNumber (now (image .entry)) (now (state .entry)) (now (start .entry)) (length (now (answer .entry))) ⌝ }
-    ensures bytes { λ r. ⌜ now (answer .exit) ≡ cond (eqb r 0) (solveAnswer (now (image .entry)) (now (state .entry)) (now (start .entry))) (now (answer .entry)) ⌝ }
-    ensures guarantee { λ r. ⌜ (r ≡ 0 → Guarantee (now (image .entry)) (now (state .entry)) (now (start .entry)) (now (answer .exit))) ⌝ }
+pub extern "C" fn gantry_solve(
+    image: &[u8],
+    state: &[u8],
+    target: &[u8],
+    start: &[u8],
+    answer: &mut [u8],
+) -> u32
+    ensures number { λ r. ⌜ r ≡ solveNumber (now (image .entry)) (now (state .entry)) (now (target .entry)) (now (start .entry)) (length (now (answer .entry))) ⌝ }
+    ensures bytes { λ r. ⌜ now (answer .exit) ≡ cond (eqb r 0) (solveAnswer (now (image .entry)) (now (state .entry)) (now (target .entry)) (now (start .entry))) (now (answer .entry)) ⌝ }
+    ensures guarantee { λ r. ⌜ (r ≡ 0 → Guarantee (now (image .entry)) (now (state .entry)) (now (target .entry)) (now (start .entry)) (now (answer .exit))) ⌝ }
 {
-    let number = calls::solve_number(image, state, start, answer.len());
+    let number = calls::solve_number(image, state, target, start, answer.len());
     if number == 0 {
-        solve::solve(image, state, start, answer);
+        solve::solve(image, state, target, start, answer);
     }
     number
 }

@@ -18,21 +18,21 @@ solve-number-requires c κs = search needs
 
 solve-requires : tie.Need-solve-requires
 solve-requires c κs =
-    let a = c .before .before .before .before .before .before .before in
+    let a = c .before .before .before .before .before .before .before .before in
     let k = c .before .before .solve-number in
-    solvable (a .args .image .now) (a .args .state .now) (a .args .start .now) (length (a .args .answer .now)) (sym (k .ensures) ∙ c .before .if1 .taken)
+    solvable (a .args .image .now) (a .args .state .now) (a .args .target .now) (a .args .start .now) (length (a .args .answer .now)) (sym (k .ensures) ∙ c .before .if1 .taken)
 
 same-length : tie.Need-same-length
 same-length c = search needs
 
 returns : tie.Need-returns
 returns c =
-    let a = c .before .before .before .before .before .before .before .before .before .before in
+    let a = c .before .before .before .before .before .before .before .before .before .before .before in
     let k = c .before .before .before .before .before .solve-number in
     let e = c .before .before .solve .ensures in
     let z = c .before .before .before .before .if1 .taken in
-    let s = solvable (a .args .image .now) (a .args .state .now) (a .args .start .now) (length (a .args .answer .now)) (sym (k .ensures) ∙ z) in
-    (k .ensures, (rw (eq-eqb (k .result) 0 z) e, λ _. subst (Guarantee (a .args .image .now) (a .args .state .now) (a .args .start .now)) (sym e) (guaranteed (a .args .image .now) (a .args .state .now) (a .args .start .now) (s .0))))
+    let s = solvable (a .args .image .now) (a .args .state .now) (a .args .target .now) (a .args .start .now) (length (a .args .answer .now)) (sym (k .ensures) ∙ z) in
+    (k .ensures, (rw (eq-eqb (k .result) 0 z) e, λ _. subst (Guarantee (a .args .image .now) (a .args .state .now) (a .args .target .now) (a .args .start .now)) (sym e) (guaranteed (a .args .image .now) (a .args .state .now) (a .args .target .now) (a .args .start .now) (s .0))))
 
 returns-2 : tie.Need-returns-2
 returns-2 c =
