@@ -1,9 +1,9 @@
--- The cold start passes check 14, so a label whose sheet is accepted is refused with 13 or not at all. Assumes nothing.
+-- The cold start passes check 14, so a label whose sheet is accepted is refused with 13 or 16 or not at all. Assumes nothing.
 use mathlib.Core.Path.{_≡_, refl, sym, ap, _∙_, subst}
+use mathlib.Core.Logic.{_⊎_, inl, inr}
 use mathlib.Core.Bool.{Bool, true, false, cond}
 use mathlib.Core.List.{List}
 use Prim.Native.Nat.{ℕ, _*_}
-use lib.Dec.{eqb}
 use lib.IntN.{pos}
 use lib.ListN.{length}
 use borrow.Author.Tests.{eq-eqb}
@@ -13,20 +13,23 @@ use Rattle.word.specs.Word.{wordsAt, wordsOut}
 use Rattle.word.proofs.Words.{length-words, words-back}
 use Rattle.gradient.specs.Vector.{All2}
 use Rattle.gradient.specs.Problem.{Command, coldStart}
-use Rattle.gradient.specs.Demand.{Inside, inputsWithin, startWithin}
+use Rattle.gradient.specs.Demand.{Inside, startWithin}
 use Rattle.gradient.proofs.Vector.{with-map}
 use Rattle.gradient.proofs.Tests.{ordered-all, all-start}
 use Rattle.gradient.proofs.Lengths.{coldStart-length}
 use Rattle.image.specs.Order.{orElse}
 use Rattle.image.specs.Sizes.{commandCount}
 use Rattle.image.specs.Layout.{sizesOf, problemOf}
+use Rattle.image.specs.declared.Input.the-variants.{Target}
 use Rattle.interface.specs.Tables.{imageNumber}
 use Rattle.interface.specs.Accepted.{Accepted}
-use Rattle.interface.specs.Calls.{inputsOf, startOf, coldAnswer, callNumber, solveNumber}
+use Rattle.interface.specs.Calls.{inputPasses, startOf, coldAnswer, callNumber, solveNumber}
 use Rattle.interface.proofs.Accept.{accepted, commands-length}
 use Rattle.solve.proofs.Answers.{cold-fit}
-use Rattle.state_file.specs.StateFile.{isState, stateWords}
-use Rattle.label_text.specs.Label.{stateNumber}
+use Rattle.word_file.specs.WordFile.{fileWords}
+use Rattle.label_files.specs.Files.{targetForm}
+use Rattle.label_files.proofs.Form.{by-tests, inOrder, stateForm, stateLimits}
+use Rattle.label_text.specs.Label.{filesNumber}
 
 module _ (image : List ℕ) (ok : Accepted image) where
   count : length (coldStart (problemOf image)) ≡ commandCount (sizesOf image)
@@ -52,25 +55,27 @@ module _ (image : List ℕ) (ok : Accepted image) where
   cold-within : startWithin (problemOf image) (startOf (sizesOf image) (coldAnswer image)) ≡ true
   cold-within = ap (startWithin (problemOf image)) cold-read ∙ all-start (problemOf image) (coldStart (problemOf image)) cold-inside
 
--- what is left of the tests: the file's form, its count and its limits
-left : Bool → Bool → Bool → ℕ
-left form size limits = orElse (cond form 0 13) (cond size (cond limits 0 13) 13)
+-- what is left of the tests: the form of each file, and its limits
+left : Bool → Bool → Bool → Bool → ℕ
+left form limits target-form target-limits = orElse (inOrder form limits target-form) (cond limits (cond target-limits 0 16) 13)
 
-left-13 : (form size limits : Bool) → (left form size limits ≡ 0 → ⊥) → left form size limits ≡ 13
+left-13-16 : (f l g m : Bool) → (left f l g m ≡ 0 → ⊥) → (left f l g m ≡ 13) ⊎ (left f l g m ≡ 16)
 unfolding left
-left-13 true true true h = absurd (h refl)
-left-13 true true false h = refl
-left-13 true false limits h = refl
-left-13 false size limits h = refl
+left-13-16 true true true true h = absurd (h refl)
+left-13-16 true true true false h = inr refl
+left-13-16 true true false m h = inr refl
+left-13-16 true false g m h = inl refl
+left-13-16 false l g m h = inl refl
 
-module _ (image state : List ℕ) (e : imageNumber image ≡ 0) where
-  tests : stateNumber image state
-      ≡ left (isState (sizesOf image .nx) state) (eqb (length (stateWords (sizesOf image .nx) state)) (4 * sizesOf image .nx)) (inputsWithin (problemOf image) (inputsOf (sizesOf image) (stateWords (sizesOf image .nx) state)))
-  unfolding stateNumber solveNumber callNumber left
+module _ (image state target : List ℕ) (e : imageNumber image ≡ 0) where
+  tests : filesNumber image state target
+      ≡ left (stateForm (sizesOf image) image state target) (stateLimits (sizesOf image) image state target)
+      (targetForm (sizesOf image .nr) target) (inputPasses Target (sizesOf image) image (fileWords (sizesOf image .nr) target))
+  unfolding filesNumber solveNumber callNumber left
   tests =
       let ok = accepted image e in
       let n = commandCount (sizesOf image) in
-      rw (e, eq-eqb (length (coldAnswer image)) (4 * n) (cold-length image ok), cold-within image ok, eq-eqb (8 * n) (8 * n) refl)
+      rw (by-tests (sizesOf image) image state target, e, eq-eqb (length (coldAnswer image)) (4 * n) (cold-length image ok), cold-within image ok, eq-eqb (8 * n) (8 * n) refl)
 
-  pub only-13 : (stateNumber image state ≡ 0 → ⊥) → stateNumber image state ≡ 13
-  only-13 h = subst (λ (k : ℕ). (k ≡ 0 → ⊥) → k ≡ 13) (sym tests) (left-13 _ _ _) h
+  pub only-13-16 : (filesNumber image state target ≡ 0 → ⊥) → (filesNumber image state target ≡ 13) ⊎ (filesNumber image state target ≡ 16)
+  only-13-16 h = subst (λ (k : ℕ). (k ≡ 0 → ⊥) → (k ≡ 13) ⊎ (k ≡ 16)) (sym tests) (left-13-16 _ _ _ _) h

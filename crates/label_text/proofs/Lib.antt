@@ -1,4 +1,5 @@
--- What the proofs of label_text share, and its laws: how many bytes decide a label, and which numbers a state gives.
+-- What the proofs of label_text share, and its laws: how many bytes decide a label, when target.hex decides nothing, and which numbers the files give.
 pub mod Printed
+pub mod Target
 pub mod Enough
 pub mod Cold

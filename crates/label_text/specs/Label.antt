@@ -1,38 +1,55 @@
--- Document 01, "The label program": what it prints for the bytes of drive.hex and of state.hex. Definitions only.
+-- Document 01, "The label program", and document 02, request 1: what it prints for the bytes of drive.hex, state.hex and target.hex. Definitions only.
 use Prim.Native.Nat.{ℕ, _*_, _≤_}
 use mathlib.Core.Path.{_≡_}
-use mathlib.Core.List.{List, [], _∷_}
+use mathlib.Core.List.{List}
 use lib.ListN.{length, take}
-use Rattle.image.specs.Order.{check, firstFault, orElse}
+use Rattle.image.specs.Order.{orElse}
 use Rattle.image.specs.Sizes.{commandCount}
 use Rattle.image.specs.Layout.{sizesOf}
 use Rattle.interface.specs.Calls.{coldAnswer, solveNumber, solveAnswer}
+use Rattle.line.specs.Line.{lineAt}
+use Rattle.frame.specs.declared.Head.{Head}
+use Rattle.frame.specs.declared.Head.the-variants.{Sized, Unsized}
+use Rattle.frame.specs.Frame.{headOf}
 use Rattle.intake.specs.Intake.{intakeImage, intakeNumber}
-use Rattle.state_file.specs.StateFile.{isState, stateWords}
+use Rattle.word_file.specs.WordFile.{fileWords}
 use Rattle.text.specs.Text.{lines, printed}
+use Rattle.label_files.specs.Files.{formNumber}
 use Rattle.label_text.specs.declared.Drive.{Drive}
 
--- the number once an image stands: "anything else is 13", then that of a solve, which "takes the cold start"
-unfoldable pub stateNumber : List ℕ → List ℕ → ℕ
-stateNumber image state =
+-- ---- how many target values
+
+-- the nr of line 01; 0 where it gives no sizes
+abbrev pub headCount : Head → ℕ
+headCount (Sized z) = z .nr
+headCount (Unsized n) = 0
+
+unfoldable pub targetCount : List ℕ → ℕ
+targetCount drive = headCount (headOf (lineAt drive 0))
+
+-- ---- what is printed
+
+-- the number once an image stands: that of the files, then that of a solve, which "takes the cold start"
+unfoldable pub filesNumber : List ℕ → List ℕ → List ℕ → ℕ
+filesNumber image state target =
     let z = sizesOf image in
-    orElse (firstFault (check 13 (isState (z .nx) state) ∷ [])) (solveNumber image (stateWords (z .nx) state) (coldAnswer image) (8 * commandCount z))
+    orElse (formNumber z image state target) (solveNumber image (fileWords (z .nx) state) (fileWords (z .nr) target) (coldAnswer image) (8 * commandCount z))
 
 -- the lines of that solve's answer, or the refusal
-unfoldable pub imageText : List ℕ → List ℕ → List ℕ
-imageText image state =
+unfoldable pub imageText : List ℕ → List ℕ → List ℕ → List ℕ
+imageText image state target =
     let z = sizesOf image in
-    printed (stateNumber image state) (lines (commandCount z) (solveAnswer image (stateWords (z .nx) state) (coldAnswer image)) (commandCount z))
+    printed (filesNumber image state target) (lines (commandCount z) (solveAnswer image (fileWords (z .nx) state) (fileWords (z .nr) target) (coldAnswer image)) (commandCount z))
 
--- "It reads drive.hex (a sheet) and state.hex": the intake's number, for a buffer of the image's own length, comes first
-unfoldable pub labelText : List ℕ → List ℕ → List ℕ
-labelText drive state = printed (intakeNumber drive (length (intakeImage drive))) (imageText (intakeImage drive) state)
+-- "It reads drive.hex (a sheet) and state.hex", and target.hex: the intake's number, for a buffer of the image's own length, comes first
+unfoldable pub labelText : List ℕ → List ℕ → List ℕ → List ℕ
+labelText drive state target = printed (intakeNumber drive (length (intakeImage drive))) (imageText (intakeImage drive) state target)
 
 -- ---- what the code holds
 
 -- the number of a sheet, and with 0 its image in front of an array
 pub record ReadDrive (sheet : List ℕ) (d : Drive) : Type 0 where
   pub number-is : d .number ≡ intakeNumber sheet (length (intakeImage sheet))
-  pub size : length (d .image) ≡ 1908
-  pub room : d .length ≤ 1908
+  pub size : length (d .image) ≡ 2180
+  pub room : d .length ≤ 2180
   pub image-is : d .number ≡ 0 → take (d .length) (d .image) ≡ intakeImage sheet

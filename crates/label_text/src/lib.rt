@@ -1,4 +1,4 @@
-// What the label program prints, from the bytes of its two files.
+// What the label program prints, from the bytes of its files.
 ghost use mathlib.Core.Path.{_≡_};
 ghost use Prim.Native.Nat.{_*_, _≤_};
 ghost use lib.ListN.{length, take};
@@ -7,14 +7,15 @@ ghost use Rattle.image.specs.Layout.{sizesOf};
 ghost use Rattle.interface.specs.Tables.{imageNumber};
 ghost use Rattle.interface.specs.Calls.{coldAnswer};
 ghost use Rattle.text.specs.Text.{Holds};
-ghost use Rattle.label_text.specs.Label.{imageText, labelText, ReadDrive};
+ghost use Rattle.label_text.specs.Label.{targetCount, imageText, labelText, ReadDrive};
+use frame::Head;
 use text::Text;
 
 // The number of a sheet, and with 0 its image in front of the array.
 pub struct Drive {
     pub number: u32,
     pub length: usize,
-    pub image: [u8; 1908],
+    pub image: [u8; 2180],
 }
 
 // Takes a sheet in. Reading it once before tells the image's length, which the intake asks for.
@@ -37,26 +38,45 @@ fn cold_start(image: &[u8], n: usize) -> [u8; 64]
     requires { ⌜ (imageNumber (now image) ≡ 0) × ((n ≡ commandCount (sizesOf (now image))) × (n ≤ 16)) ⌝ }
     ensures { λ r. ⌜ (length r ≡ 64) × (take (4 * n) r ≡ coldAnswer (now (image .entry))) ⌝ }
 {
-    let mut start = state_file::blank_words();
+    let mut start = word_file::blank_words();
     gantry::gantry_cold_start(image, &mut start[..4 * n]);
     start
 }
 
+// The number of target values that line 01 of a sheet gives.
+pub fn target_count(drive: &[u8]) -> usize
+    ensures { λ r. ⌜ r ≡ targetCount (now (drive .entry)) ⌝ }
+{
+    match frame::head_of(line::line_from(drive, 0)) {
+        Head::Sized(z) => z.nr,
+        Head::Unsized(_) => 0,
+    }
+}
+
 // The label of an accepted image.
-fn image_text(image: &[u8], state: &[u8]) -> Text
+fn image_text(image: &[u8], state: &[u8], target: &[u8]) -> Text
     requires { ⌜ imageNumber (now image) ≡ 0 ⌝ }
-    ensures { λ r. ⌜ Holds (imageText (now (image .entry)) (now (state .entry))) r ⌝ }
+    ensures { λ r. ⌜ Holds (imageText (now (image .entry)) (now (state .entry)) (now (target .entry))) r ⌝ }
 {
     let z = image::sizes_of(image);
-    let nx = z.nx;
-    if !state_file::is_state(state, nx) {
-        return text::refusal_of(13);
+    let fault = label_files::form_number(image, z, state, target);
+    if fault != 0 {
+        return text::refusal_of(fault);
     }
+    let nx = z.nx;
+    let nr = z.nr;
     let n = z.nu * z.steps;
-    let x = state_file::state_words(state, nx);
+    let x = word_file::file_words(state, nx);
+    let r = word_file::file_words(target, nr);
     let start = cold_start(image, n);
     let mut answer = text::blank_text();
-    let number = gantry::gantry_solve(image, &x[..4 * nx], &start[..4 * n], &mut answer[..8 * n]);
+    let number = gantry::gantry_solve(
+        image,
+        &x[..4 * nx],
+        &r[..4 * nr],
+        &start[..4 * n],
+        &mut answer[..8 * n],
+    );
     if number != 0 {
         return text::refusal_of(number);
     }
@@ -64,8 +84,8 @@ fn image_text(image: &[u8], state: &[u8]) -> Text
 }
 
 // What the label program prints.
-pub fn label(drive: &[u8], state: &[u8]) -> Text
-    ensures { λ r. ⌜ Holds (labelText (now (drive .entry)) (now (state .entry))) r ⌝ }
+pub fn label(drive: &[u8], state: &[u8], target: &[u8]) -> Text
+    ensures { λ r. ⌜ Holds (labelText (now (drive .entry)) (now (state .entry)) (now (target .entry))) r ⌝ }
 {
     let d = read_drive(drive);
     let number = d.number;
@@ -74,5 +94,5 @@ pub fn label(drive: &[u8], state: &[u8]) -> Text
     }
     let image = d.image;
     let length = d.length;
-    image_text(&image[..length], state)
+    image_text(&image[..length], state, target)
 }

@@ -30,8 +30,23 @@ slice-aggregate-read-file-4 c = search needs
 read-file-requires-2 : tie.Need-read-file-requires-2
 read-file-requires-2 c κs = search needs
 
+target-room-requires : tie.Need-target-room-requires
+target-room-requires c κs = search needs
+
 array-share-prefix-drive : tie.Need-array-share-prefix-drive
 array-share-prefix-drive c = search needs
+
+slice-aggregate-read-target : tie.Need-slice-aggregate-read-target
+slice-aggregate-read-target c = search needs
+
+slice-aggregate-read-target-2 : tie.Need-slice-aggregate-read-target-2
+slice-aggregate-read-target-2 c = search needs
+
+read-target-requires : tie.Need-read-target-requires
+read-target-requires c κs = search needs
+
+array-share-prefix-drive-2 : tie.Need-array-share-prefix-drive-2
+array-share-prefix-drive-2 c = search needs
 
 slice-aggregate-label : tie.Need-slice-aggregate-label
 slice-aggregate-label c = search needs
@@ -41,6 +56,12 @@ array-share-prefix-state c = search needs
 
 slice-aggregate-label-2 : tie.Need-slice-aggregate-label-2
 slice-aggregate-label-2 c = search needs
+
+array-share-prefix-target : tie.Need-array-share-prefix-target
+array-share-prefix-target c = search needs
+
+slice-aggregate-label-3 : tie.Need-slice-aggregate-label-3
+slice-aggregate-label-3 c = search needs
 
 label-requires : tie.Need-label-requires
 label-requires c κs = search needs
@@ -71,10 +92,17 @@ main-spec =
     slice-aggregate-read-file-3
     slice-aggregate-read-file-4
     read-file-requires-2
+    target-room-requires
     array-share-prefix-drive
+    slice-aggregate-read-target
+    slice-aggregate-read-target-2
+    read-target-requires
+    array-share-prefix-drive-2
     slice-aggregate-label
     array-share-prefix-state
     slice-aggregate-label-2
+    array-share-prefix-target
+    slice-aggregate-label-3
     label-requires
     array-share-prefix-bytes
     slice-aggregate-write-all

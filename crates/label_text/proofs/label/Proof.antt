@@ -22,9 +22,9 @@ refusal-of-requires c κs = search needs
 
 returns : tie.Need-returns
 returns c =
-    let a = c .before .before .before .before .before .args in
+    let a = c .before .before .before .before .before .before .args in
     let d = c .before .before .read-drive in
-    subst (λ (text : List ℕ). Holds text (c .refusal-of .result)) (sheet-refused (a .drive .now) (a .state .now) (d .result .number) (d .ensures .number-is) (c .before .if1 .taken)) (c .refusal-of .ensures)
+    subst (λ (text : List ℕ). Holds text (c .refusal-of .result)) (sheet-refused (a .drive .now) (a .state .now) (a .target .now) (d .result .number) (d .ensures .number-is) (c .before .if1 .taken)) (c .refusal-of .ensures)
 
 array-share-prefix-image : tie.Need-array-share-prefix-image
 array-share-prefix-image c = omega (arith, c .before .before .read-drive .ensures .size, c .before .before .read-drive .ensures .room)
@@ -36,18 +36,18 @@ slice-aggregate-image-text c =
 
 image-text-requires : tie.Need-image-text-requires
 image-text-requires c κs =
-    let drive = c .before .before .before .before .before .before .args .drive .now in
+    let drive = c .before .before .before .before .before .before .before .args .drive .now in
     let d = c .before .before .before .read-drive in
     let zero = c .before .before .if1 .left in
     rw (d .ensures .image-is zero) (accepted-image drive (length (intakeImage drive)) (sym (d .ensures .number-is) ∙ zero))
 
 returns-2 : tie.Need-returns-2
 returns-2 c =
-    let a = c .before .before .before .before .before .before .before .args in
+    let a = c .before .before .before .before .before .before .before .before .args in
     let d = c .before .before .before .before .read-drive in
     let zero = c .before .before .before .if1 .left in
     subst (λ (text : List ℕ). Holds text (c .image-text .result))
-    (ap (λ (image : List ℕ). imageText image (a .state .now)) (d .ensures .image-is zero) ∙ sheet-accepted (a .drive .now) (a .state .now) (d .result .number) (d .ensures .number-is) zero) (c .image-text .ensures)
+    (ap (λ (image : List ℕ). imageText image (a .state .now) (a .target .now)) (d .ensures .image-is zero) ∙ sheet-accepted (a .drive .now) (a .state .now) (a .target .now) (d .result .number) (d .ensures .number-is) zero) (c .image-text .ensures)
 
 pub label-spec : {M : Type 1} → statement M
 label-spec =

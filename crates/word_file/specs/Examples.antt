@@ -6,25 +6,25 @@ use Prim.Native.Nat.{ℕ}
 use Rattle.word.specs.Digits.{numberBE, digitsBE}
 use Rattle.word.specs.Word.{bytesBE}
 use Rattle.hex.specs.Hex.{isHex, digitOf, hexes, hexAt}
-use Rattle.state_file.specs.StateFile.{isState, stateWords}
+use Rattle.word_file.specs.WordFile.{isWordFile, fileWords}
 
--- "state 0000000A"
+-- "state 0000000A", and byte 10
 abbrev state : List ℕ
 state = 48 ∷ 48 ∷ 48 ∷ 48 ∷ 48 ∷ 48 ∷ 48 ∷ 65 ∷ 10 ∷ []
 
-one : isState 1 state ≡ true
-unfolding isState hexes isHex
+one : isWordFile 1 state ≡ true
+unfolding isWordFile hexes isHex
 one = refl
 
-one-words : stateWords 1 state ≡ 0 ∷ 0 ∷ 0 ∷ 10 ∷ []
-unfolding stateWords bytesBE digitsBE hexAt numberBE digitOf isHex
+one-words : fileWords 1 state ≡ 0 ∷ 0 ∷ 0 ∷ 10 ∷ []
+unfolding fileWords bytesBE digitsBE hexAt numberBE digitOf isHex
 one-words = refl
 
 -- of another count, and without its byte 10
-two : isState 2 state ≡ false
-unfolding isState
+two : isWordFile 2 state ≡ false
+unfolding isWordFile
 two = refl
 
-cut : isState 1 (48 ∷ 48 ∷ 48 ∷ 48 ∷ 48 ∷ 48 ∷ 48 ∷ 65 ∷ []) ≡ false
-unfolding isState
+cut : isWordFile 1 (48 ∷ 48 ∷ 48 ∷ 48 ∷ 48 ∷ 48 ∷ 48 ∷ 65 ∷ []) ≡ false
+unfolding isWordFile
 cut = refl

@@ -1,4 +1,4 @@
--- `state_file::state_words` meets its contract. The invariant: the words passed stand in front. Assumes nothing.
+-- `word_file::file_words` meets its contract. The invariant: the words passed stand in front. Assumes nothing.
 use native.Mathlib.Omega.{arith}
 use native.Mathlib.Numerals.{add-one}
 use mathlib.Core.Path.{_≡_, refl, sym, ap, subst, _∙_}
@@ -9,21 +9,21 @@ use Rattle.word.specs.Word.{bytesOf}
 use Rattle.word.proofs.Words.{length-bytes}
 use Rattle.word.proofs.Buffer.{front-put}
 use Rattle.hex.specs.Hex.{hexAt}
-use Rattle.state_file.specs.StateFile.{stateWords}
-use Rattle.state_file.proofs.state_words.Statement.{statement}
-use Rattle.state_file.proofs.state_words.Tie as tie
+use Rattle.word_file.specs.WordFile.{fileWords}
+use Rattle.word_file.proofs.file_words.Statement.{statement}
+use Rattle.word_file.proofs.file_words.Tie as tie
 
 abbrev Inv-loop : tie.InvT-loop
-Inv-loop file nx r₀ i₀ r i = (i ≤ nx) × ((length r ≡ 64) × (take (4 * i) r ≡ stateWords i file))
+Inv-loop file count r₀ i₀ r i = (i ≤ count) × ((length r ≡ 64) × (take (4 * i) r ≡ fileWords i file))
 
 abbrev μ-loop : tie.MeasureT-loop
-μ-loop file nx r₀ i₀ r i = nx - i
+μ-loop file count r₀ i₀ r i = count - i
 
 blank-words-requires : tie.Need-blank-words-requires Inv-loop μ-loop
 blank-words-requires c κs = tt
 
 loop-holds : tie.Need-loop-holds Inv-loop μ-loop
-unfolding stateWords
+unfolding fileWords
 loop-holds c = (omega arith, (c .blank-words .ensures, refl))
 
 slice-aggregate-put-nat : tie.Need-slice-aggregate-put-nat Inv-loop μ-loop
@@ -48,7 +48,7 @@ loop-less : tie.Need-loop-less Inv-loop μ-loop
 loop-less c = omega arith
 
 loop-again : tie.Need-loop-again Inv-loop μ-loop
-unfolding stateWords
+unfolding fileWords
 loop-again c =
     let file = c .before .before .before .before .before .before .before .before .args .file .now in
     let l = c .before .before .before .before .before .loop in
@@ -58,7 +58,7 @@ loop-again c =
       (
         c .before .put-nat .kept .0 ∙ l .inv .1 .0,
         ap (take (4 * (l .i + 1))) w
-            ∙ front-put (l .r) (stateWords (l .i) file) (bytesOf n) (4 * l .i) (4 * (l .i + 1)) (l .inv .1 .1) (omega (arith, length-bytes 4 n)) (omega arith)
+            ∙ front-put (l .r) (fileWords (l .i) file) (bytesOf n) (4 * l .i) (4 * (l .i + 1)) (l .inv .1 .1) (omega (arith, length-bytes 4 n)) (omega arith)
             ∙ rw (add-one (l .i)),
       ),
     )
@@ -67,11 +67,11 @@ returns : tie.Need-returns Inv-loop μ-loop
 returns c =
     let a = c .before .before .before .before .args in
     let l = c .before .loop in
-    let e : l .i ≡ a .nx = omega arith in
-    (l .inv .1 .0, subst (λ (k : ℕ). take (4 * k) (l .r) ≡ stateWords k (a .file .now)) e (l .inv .1 .1))
+    let e : l .i ≡ a .count = omega arith in
+    (l .inv .1 .0, subst (λ (k : ℕ). take (4 * k) (l .r) ≡ fileWords k (a .file .now)) e (l .inv .1 .1))
 
-pub state-words-spec : {M : Type 1} → statement M
-state-words-spec =
+pub file-words-spec : {M : Type 1} → statement M
+file-words-spec =
     tie.close
     (tie.spec
     Inv-loop

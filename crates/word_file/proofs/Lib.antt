@@ -1,2 +1,2 @@
 -- The laws that other crates cite.
-pub mod StateFile
+pub mod WordFile

@@ -1,0 +1,2 @@
+-- The laws of the files.
+pub mod Form

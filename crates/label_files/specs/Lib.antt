@@ -1,0 +1,2 @@
+-- What the contracts and the laws of label_files cite.
+pub mod Files

@@ -1,0 +1,3 @@
+-- What the contracts and the laws of word_file cite.
+pub mod WordFile
+pub mod Examples

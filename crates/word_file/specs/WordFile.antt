@@ -1,0 +1,17 @@
+-- Document 01, "The label program": what state.hex says, and so a file "formed as state.hex" (document 02, request 1). Definitions only.
+use Prim.Native.Nat.{ℕ, zero, suc, _+_, _*_}
+use mathlib.Core.Bool.{Bool, _&&_}
+use mathlib.Core.List.{List, [], _++_}
+use lib.Dec.{eqb}
+use lib.ListN.{length, getD}
+use Rattle.word.specs.Word.{bytesOf}
+use Rattle.hex.specs.Hex.{hexes, hexAt}
+
+-- a file of count words, for state.hex "nx words of 8 digits with nothing between, then one byte 10"
+unfoldable pub isWordFile : ℕ → List ℕ → Bool
+isWordFile count file = eqb (length file) (8 * count + 1) && (eqb (getD file (8 * count) 0) 10 && hexes (8 * count) file 0)
+
+-- its words, "big-endian" as a solve takes them
+unfoldable pub fileWords : ℕ → List ℕ → List ℕ
+fileWords zero file = []
+fileWords (suc k) file = fileWords k file ++ bytesOf (hexAt 8 file (8 * k))
