@@ -1,10 +1,15 @@
-//! Document 01's cases at the edges as one table, the starred ones among them, and a few of our own behind them.
+//! Document 01's cases at the edges as one table, the starred ones among them, and a few of our own behind them: edges
+//! that it implies, and those of request 1. The figures of ours are worked out by hand from the papers.
 
 use crate::double::of_count;
 use crate::draft::{Draft, text};
 use crate::drive::{Call, Kind, Outcome};
 use crate::harness::Harness;
-use crate::image::{COST, GAIN, HEADER_WORDS, HIGH, LOW, MOMENTUM, Number, STATE_LIMIT, Sizes, bytes, words};
+use crate::image::{
+    COST, GAIN, HEADER_WORDS, HIGH, LOW, MOMENTUM, Number, STATE_LIMIT, Sizes, TARGET_GAIN, TARGET_LIMIT, bytes, words,
+};
+use crate::label::Folder;
+use crate::sheet::LINE;
 
 /// S, as document 01 prints it.
 pub const SAMPLE: &str = "\
@@ -30,15 +35,46 @@ use Expect::*;
 pub struct Case {
     name: String,
     sheet: Vec<u8>,
+    image_len: usize,
     /// Absent where only the sheet is tried.
     image: Option<Vec<u8>>,
-    state: Vec<i64>,
+    state: Vec<u8>,
+    target: Vec<u8>,
+    /// The cold start where absent.
+    start: Option<Vec<u8>>,
+    /// The bytes that the answer's buffer has too many.
+    spare: usize,
     expect: Expect,
 }
 
+impl Case {
+    fn target(self, target: &[i64]) -> Case {
+        Case { target: bytes(target), ..self }
+    }
+
+    fn target_bytes(self, target: &[u8]) -> Case {
+        Case { target: target.to_vec(), ..self }
+    }
+
+    fn start(self, start: &[i64]) -> Case {
+        Case { start: Some(bytes(start)), ..self }
+    }
+
+    fn spare(self, spare: usize) -> Case {
+        Case { spare, ..self }
+    }
+}
+
 fn case(name: &str, draft: &Draft, state: &[i64], expect: Expect) -> Case {
-    let (sheet, image) = (draft.sheet(), Some(draft.image()));
-    Case { name: name.to_string(), sheet, image, state: state.to_vec(), expect }
+    let case = sheet_case(name, draft, draft.sheet(), expect);
+    Case { image: Some(draft.image()), state: bytes(state), target: Vec::new(), ..case }
+}
+
+/// A sheet of about the draft's shape, solved for state 10 and target 0 if it is accepted.
+fn sheet_case(name: &str, draft: &Draft, sheet: Vec<u8>, expect: Expect) -> Case {
+    let (name, image_len) = (name.to_string(), draft.image().len());
+    let (state, target) = (bytes(&[10]), vec![0; 4 * draft.sizes.targets]);
+    Case { name, sheet, image_len, image: None, state, target, start: None, spare: 0, expect }
 }
 
 /// One case for each count of sweeps from 1; each row has the commands, then the bounds.
@@ -50,20 +86,24 @@ fn runs(name: &str, draft: &Draft, state: &[i64], rows: &[&[i64]]) -> Vec<Case> 
     rows.iter().enumerate().map(run).collect()
 }
 
-/// S with other doubles in some lines.
-fn with_doubles(name: &str, doubles: &[(u8, f64)], expect: Expect) -> Case {
-    let draft = sample();
+/// The same, each with this target.
+fn runs_to(name: &str, draft: &Draft, state: &[i64], target: &[i64], rows: &[&[i64]]) -> Vec<Case> {
+    runs(name, draft, state, rows).into_iter().map(|case| case.target(target)).collect()
+}
+
+/// The draft with other doubles in the first line of some kinds.
+fn with_doubles(name: &str, draft: &Draft, doubles: &[(u8, f64)], expect: Expect) -> Case {
     let mut frames = draft.frames(|i| of_count(draft.body[i], draft.sizes.bits));
     for (kind, double) in doubles {
         let frame = frames.iter_mut().find(|frame| frame[0] == *kind).unwrap();
         frame[3..].copy_from_slice(&double.to_be_bytes());
     }
-    Case { name: name.to_string(), sheet: text(&frames), image: None, state: vec![10], expect }
+    sheet_case(name, draft, text(&frames), expect)
 }
 
 /// S in words.
 pub fn sample() -> Draft {
-    let sizes = Sizes { motors: 1, steps: 1, states: 1, bits: 4, width: 8, iterations: 3 };
+    let sizes = Sizes { motors: 1, steps: 1, states: 1, bits: 4, width: 8, iterations: 3, targets: 0 };
     let draft = Draft::new(sizes).with(COST, &[8]).with(GAIN, &[16]).with(STATE_LIMIT, &[10]);
     draft.with(LOW, &[-20]).with(HIGH, &[20])
 }
@@ -101,10 +141,10 @@ pub fn table() -> Vec<Case> {
         case("* H (9,8),(8,9)", &two_steps(9, 8), &[10], Refused(10)),
         case("* H (8,7),(7,8), β 9", &two_steps(8, 7).with(MOMENTUM, &[9]), &[10], Refused(11)),
         case("* H (8,7),(7,8), β 10", &two_steps(8, 7).with(MOMENTUM, &[10]), &[10], Accepted),
-        with_doubles("* low limit 0.03125", &[(LOW, half)], Words(LOW, vec![1])),
-        with_doubles("* high limit 0.03125", &[(HIGH, half)], Words(HIGH, vec![0])),
-        with_doubles("both limits 0.03125", &[(LOW, half), (HIGH, half)], Refused(7)),
-        with_doubles("* -0.03125 in Φ", &[(GAIN, -half)], Words(GAIN, vec![-1])),
+        with_doubles("* low limit 0.03125", &s(), &[(LOW, half)], Words(LOW, vec![1])),
+        with_doubles("* high limit 0.03125", &s(), &[(HIGH, half)], Words(HIGH, vec![0])),
+        with_doubles("both limits 0.03125", &s(), &[(LOW, half), (HIGH, half)], Refused(7)),
+        with_doubles("* -0.03125 in Φ", &s(), &[(GAIN, -half)], Words(GAIN, vec![-1])),
         case("* state 10", &s(), &[10], Answer(vec![-18, 3])),
         case("state 11", &s(), &[11], Refused(13)),
         case("sweeps 0", &s().iterations(0), &[10], Refused(3)),
@@ -112,6 +152,9 @@ pub fn table() -> Vec<Case> {
         case("sweeps 400", &s().iterations(400), &[10], Answer(vec![-20, 3])),
     ]);
     table.extend(our_own());
+    table.extend(followed_targets());
+    table.extend(refused_targets());
+    table.extend(target_lines());
     table
 }
 
@@ -135,30 +178,206 @@ fn our_own() -> Vec<Case> {
     table
 }
 
+/// S with targets, and with a step for each row of the table. The steps have no part in each other.
+fn with_targets(table: &[i64], limits: &[i64]) -> Draft {
+    let steps = table.len() / limits.len();
+    let mut draft = Draft::new(Sizes { steps, targets: limits.len(), ..sample().sizes });
+    draft.section(COST).iter_mut().step_by(steps + 1).for_each(|diagonal| *diagonal = 8);
+    draft.section(GAIN).fill(16);
+    let draft = draft.with(LOW, &[-20]).with(HIGH, &[20]).with(STATE_LIMIT, &[10]);
+    draft.with(TARGET_GAIN, table).with(TARGET_LIMIT, limits)
+}
+
+/// S with a target: its table −8 counts, its limit 7.
+pub fn with_target() -> Draft {
+    with_targets(&[-8], &[7])
+}
+
+/// Its text: S with 01 for nr in line 01, and behind it −0.5 and 0.4375.
+pub fn with_target_text() -> Vec<u8> {
+    let lines = SAMPLE.replace("0101010104080000030000", "0101010104080100030000");
+    (lines + "080000BFE0000000000000\n0900003FDC000000000000\n").into_bytes()
+}
+
+fn with_limits(state: i64, target: i64) -> Draft {
+    with_target().with(STATE_LIMIT, &[state]).with(TARGET_LIMIT, &[target])
+}
+
+/// A target table that differs from row to row and from column to column.
+pub fn two_targets() -> Draft {
+    with_targets(&[16, 32, -16, 8], &[3, 3])
+}
+
+/// Request 1, accepted. M is 8 where H is 8, so that with β 0 a sweep makes z into half of z, rounded, less h, and e
+/// into half of e + 1, rounded up, plus c.
+fn followed_targets() -> Vec<Case> {
+    let one = with_target;
+    // −8 × 7 / 16 = −3.5 is −4, so h = 10 − 4 = 6: −3 − 6, then −4.5 is −5, −5 − 6, then −5.5 is −6, −6 − 6. c is
+    // 1 + 1 = 2: half of 3 is 2, 2 + 2, half of 5 is 3, 3 + 2, half of 6 is 3. Exactly h is 6.5: −6.5, −9.75, −11.375.
+    let rows: [&[i64]; 5] = [&[-6, 2], &[-9, 4], &[-11, 5], &[-12, 5], &[-12, 5]];
+    let mut table = runs_to("S with a target", &one(), &[10], &[7], &rows);
+    // h = 6. y: 24 × −6 / 16 = −9; −16.5 is −17, less −3: −14; −19.5 is −20, less −5.5, which is −6: −14.
+    // z: −4.5 is −5, −5 − 6; −7 − 6; −7 − 6. q: 2 + 1 + 1 = 4, 4 + 3 + 1 = 8, 6 + 5 + 1 = 12; e: half of q, plus 2.
+    let rows: [&[i64]; 4] = [&[-6, 2], &[-11, 4], &[-13, 6], &[-13, 8]];
+    table.extend(runs_to("S with a target, β 8", &one().with(MOMENTUM, &[8]), &[10], &[7], &rows));
+    // Each product is −0.5 and by itself −1, so h = −2; rounded once it would be −1. 0 + 2, 1 + 2, 1.5 is 1, 1 + 2.
+    let halves = one().with(GAIN, &[8]).with(TARGET_GAIN, &[8]);
+    let rows: [&[i64]; 3] = [&[2, 2], &[3, 4], &[3, 5]];
+    table.extend(runs_to("two halves below zero", &halves, &[-1], &[-1], &rows));
+    // 80, 32, −24 and 8 over 16 are 5, 2, −2 (−1.5) and 0 (0.5), so h = 10 + 5 = 15: −7.5 is −8, −8 − 15 is held. c is
+    // 1 + 4 = 5: half of 6 is 3, 3 + 5; half of 9 is 5, 5 + 5.
+    let four = with_targets(&[16, 8, -8, 4], &[5, 4, 3, 2]);
+    let rows: [&[i64]; 3] = [&[-15, 5], &[-20, 8], &[-20, 10]];
+    table.extend(runs_to("four targets", &four, &[10], &[5, 4, 3, 2], &rows));
+    // h = (1 + 4, −1 + 1); by columns it would be (1 − 2, 2 + 1). −2.5 is −3, −3 − 5; −4 − 5. c is 1 + 2 = 3, above
+    // n = 2: half of 4 + 3, half of 6 + 3.
+    let rows: [&[i64]; 3] = [&[-5, 0, 3, 3], &[-8, 0, 5, 5], &[-9, 0, 6, 6]];
+    table.extend(runs_to("two steps, two targets", &two_targets(), &[0], &[1, 2], &rows));
+    // h = (1, 0, 0): −0.5 is −1, −1 − 1. c is n = 3, above 1 + 1: half of 4 is 2, 2 + 3.
+    let rows: [&[i64]; 2] = [&[-1, 0, 0, 3, 3, 3], &[-2, 0, 0, 5, 5, 5]];
+    table.extend(runs_to("three steps, one target", &with_targets(&[16, 0, 0], &[1]), &[0], &[1], &rows));
+    // −8 × −7 / 16 = 3.5 is 3, so h = 13: −13, −6.5 is −7, −7 − 13 = −20, then held.
+    table.push(case("target -7", &one(), &[10], Answer(vec![-20, 5])).target(&[-7]));
+    table
+}
+
+/// Request 1: 5, 12, 16 and their place among the numbers.
+fn refused_targets() -> Vec<Case> {
+    let s = with_target();
+    // A is 8 × 20 / 16 = 10 and top 127, which leaves 117 for B: the state limit plus half of the target's, rounded up.
+    let headroom = |state, target, expect| {
+        case(&format!("state limit {state}, target limit {target}"), &with_limits(state, target), &[10], expect)
+            .target(&[0])
+    };
+    let refused = |name: &str, number| case(name, &s, &[10], Refused(number));
+    let state = |name: &str, state: &[i64]| case(name, &s, state, Refused(13));
+    vec![
+        headroom(100, 34, Accepted),
+        headroom(100, 35, Refused(12)),
+        headroom(117, 0, Accepted),
+        headroom(117, 1, Refused(12)),
+        headroom(10, -1, Refused(5)),
+        refused("target 8", 16).target(&[8]),
+        refused("target -8", 16).target(&[-8]),
+        refused("no target", 16),
+        refused("two targets for one", 16).target(&[7, 0]),
+        refused("a target cut", 16).target_bytes(&[0, 0, 0]),
+        refused("a target and a byte", 16).target_bytes(&[0, 0, 0, 7, 0]),
+        case("a target in S", &sample(), &[10], Refused(16)).target(&[0]),
+        case("a byte of a target in S", &sample(), &[10], Refused(16)).target_bytes(&[0]),
+        state("13 before 16", &[11]).target(&[8]),
+        state("a state with the target behind it", &[10, 7]),
+        state("a target with the state before it", &[]).target(&[10, 7]),
+        refused("16 before 14", 16).target(&[8]).start(&[21]),
+        refused("16 before 15", 16).target(&[8]).spare(1),
+        refused("14 with a good target", 14).target(&[7]).start(&[21]),
+        refused("15 with a good target", 15).target(&[7]).spare(1),
+    ]
+}
+
+/// Request 1's lines: their rounding, their order, and line 01.
+fn target_lines() -> Vec<Case> {
+    let s = with_target();
+    let doubles = |name: &str, kind, double, expect| with_doubles(name, &s, &[(kind, double)], expect);
+    let (half, almost) = (0.03125, 7.96875);
+    let lines = with_target_text();
+    let line = |i: usize| &lines[i * LINE..(i + 1) * LINE];
+    let without = |count: usize| &lines[..lines.len() - count * LINE];
+    let sheet = |name: &str, parts: &[&[u8]], number| sheet_case(name, &s, parts.concat(), Refused(number));
+    let first = |name: &str, first: &[u8], number| sheet(name, &[first, b"\n", &lines[LINE..]], number);
+    let many = with_targets(&[0; 5], &[0; 5]);
+    vec![
+        doubles("target limit 0.03125", TARGET_LIMIT, half, Words(TARGET_LIMIT, vec![1])),
+        doubles("target limit -0.03125", TARGET_LIMIT, -half, Words(TARGET_LIMIT, vec![0])),
+        doubles("target limit -0.0625", TARGET_LIMIT, -2.0 * half, Refused(5)),
+        doubles("-0.03125 in the target table", TARGET_GAIN, -half, Words(TARGET_GAIN, vec![-1])),
+        // 127.5 counts: 127 in the table, which leaves B = 10 + 56, and 128 as a limit.
+        doubles("7.96875 in the target table", TARGET_GAIN, almost, Words(TARGET_GAIN, vec![127])),
+        doubles("target limit 7.96875", TARGET_LIMIT, almost, Refused(5)),
+        doubles("NaN in the target table", TARGET_GAIN, f64::NAN, Refused(5)),
+        case("five targets", &many, &[0], Refused(3)),
+        first("nr 5", b"0101010104080500030000", 3),
+        first("nr 255", b"010101010408FF00030000", 3),
+        first("nr 5, and a byte that is not 0", b"0101010104080500030100", 2),
+        first("nr 1, and a byte that is not 0", b"0101010104080100030001", 2),
+        first("nr 0 and lines of targets", b"0101010104080000030000", 4),
+        sheet("no line of targets", &[without(2)], 4),
+        sheet("no target limit", &[without(1)], 4),
+        sheet("no target table", &[without(2), line(8)], 2),
+        sheet("two lines of the target table", &[without(1), line(7), line(8)], 2),
+        sheet("two target limits", &[&lines, line(8)], 4),
+        sheet("the target limit before its table", &[without(2), line(8), line(7)], 2),
+        sheet("the targets before the state limit", &[without(3), line(7), line(8), line(6)], 2),
+    ]
+}
+
+/// Folders and what the label program prints for them.
+pub fn label_table() -> Vec<(Folder, &'static str)> {
+    let text = |text: &str| Some(text.as_bytes().to_vec());
+    let folder = |drive: &str, state, target: Option<&str>| Folder {
+        drive: text(drive),
+        state: text(state),
+        target: target.and_then(text),
+    };
+    let s = |target| folder(SAMPLE, "0000000A\n", target);
+    let with_target = String::from_utf8(with_target_text()).unwrap();
+    let without_headroom = String::from_utf8(with_limits(117, 1).sheet()).unwrap();
+    let both = |state, target| folder(&with_target, state, Some(target));
+    let of = |target| both("0000000A\n", target);
+    let (answer_of_s, refused) = ("FFFFFFEE 00000003\n", "refused 16\n");
+    vec![
+        (s(None), answer_of_s),
+        (s(Some("")), answer_of_s),
+        (s(Some("00000007\n")), answer_of_s),
+        (s(Some("junk\0")), answer_of_s),
+        // The cases "S with a target, sweeps 3" and "target -7".
+        (of("00000007\n"), "FFFFFFF5 00000005\n"),
+        (of("FFFFFFF9\n"), "FFFFFFEC 00000005\n"),
+        (of("00000008\n"), refused),
+        (of("fffffff9\n"), refused),
+        (of("00000007"), refused),
+        (of("00000007\r\n"), refused),
+        (of("00000007\n\n"), refused),
+        (of("0000000700000000\n"), refused),
+        (of("0000007\n"), refused),
+        (of("\n"), refused),
+        (of(""), refused),
+        (folder(&with_target, "0000000A\n", None), refused),
+        // The state decides first, by its form and by its value.
+        (both("0000000B\n", "00000008\n"), "refused 13\n"),
+        (both("0000000B\n", "junk"), "refused 13\n"),
+        (both("0000000A", "00000008\n"), "refused 13\n"),
+        (both("0000000A", ""), "refused 13\n"),
+        (both("0000000A00000007\n", "\n"), "refused 13\n"),
+        (folder("", "0000000A\n", Some("00000007\n")), "refused 04\n"),
+        (folder(&without_headroom, "0000000B\n", None), "refused 12\n"),
+    ]
+}
+
 /// Runs one case through every call it reaches, and holds the outcome to the table's own figures.
 pub fn run(harness: &mut Harness, case: &Case) {
-    let image_len = case.image.as_ref().map_or(sample().image().len(), Vec::len);
-    let intake = harness.compare(&Call::on_buffers(Kind::Intake, &[&case.sheet], image_len));
+    let intake = harness.compare(&Call::on_buffers(Kind::Intake, &[&case.sheet], case.image_len));
     let image = case.image.clone().or(intake.written.clone());
-    let solve = image.map(|image| solve_from_cold_start(harness, &image, &bytes(&case.state)));
+    let solve = image.map(|image| solve(harness, &image, case));
     let solve_number = solve.as_ref().map_or(intake.number, |solve| solve.number);
     let holds = match &case.expect {
-        Refused(13) => (intake.number, solve_number) == (0, 13),
+        Refused(number @ 13..) => (intake.number, solve_number) == (0, *number),
         Refused(number) => (intake.number, solve_number) == (*number, *number),
         Accepted => (intake.number, solve_number) == (0, 0),
         Answer(row) => solve.is_some_and(|solve| solve.written == Some(bytes(row))),
         Words(kind, row) => {
-            let (start, _) = sample().sizes.extent(*kind);
-            let body = intake.written.map_or(vec![], |image| image[4 * HEADER_WORDS..].to_vec());
-            body.get(4 * start..).is_some_and(|words| words.starts_with(&bytes(row)))
+            let image = words(&intake.written.unwrap_or_default());
+            let sizes = image.get(..HEADER_WORDS).and_then(Sizes::of_words);
+            sizes.is_some_and(|sizes| image[HEADER_WORDS + sizes.extent(*kind).0..].starts_with(row))
         }
     };
-    harness.check(holds, || format!("  document 01's case: {}", case.name));
+    harness.check(holds, || format!("  the table's case: {}", case.name));
 }
 
-fn solve_from_cold_start(harness: &mut Harness, image: &[u8], state: &[u8]) -> Outcome {
+fn solve(harness: &mut Harness, image: &[u8], case: &Case) -> Outcome {
     let commands = words(image)[..2].iter().product::<i64>() as usize;
-    let start = harness.compare(&Call::on_buffers(Kind::ColdStart, &[image], 4 * commands));
-    let start = start.written.unwrap_or(vec![0; 4 * commands]);
-    harness.compare(&Call::on_buffers(Kind::Solve, &[image, state, &start], 8 * commands))
+    let cold_start = harness.compare(&Call::on_buffers(Kind::ColdStart, &[image], 4 * commands));
+    let start = case.start.clone().or(cold_start.written).unwrap_or(vec![0; 4 * commands]);
+    let lent: [&[u8]; 4] = [image, &case.state, &case.target, &start];
+    harness.compare(&Call::on_buffers(Kind::Solve, &lent, 8 * commands + case.spare))
 }

@@ -8,6 +8,12 @@ pub enum Rounding {
     Up,
 }
 
+impl Rounding {
+    pub fn opposite(self) -> Rounding {
+        if self == Rounding::Down { Rounding::Up } else { Rounding::Down }
+    }
+}
+
 const FRACTION: u32 = 52;
 const BIAS: i32 = 1023;
 

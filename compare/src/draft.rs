@@ -2,9 +2,10 @@
 
 use crate::double::of_count;
 use crate::image::{Problem, Sizes, bytes};
+use crate::rules::Rules;
 use crate::sheet::{Frame, hex};
 
-#[derive(Clone)]
+#[derive(Clone, Debug)]
 pub struct Draft {
     pub sizes: Sizes,
     pub body: Vec<i64>,
@@ -33,19 +34,24 @@ impl Draft {
     }
 
     pub fn problem(&self) -> Problem {
-        Problem::new(self.sizes, &self.body)
+        Problem::new(self.sizes, &self.body, Rules::default())
+    }
+
+    /// The image in words, also those that do not fit 32 bits.
+    pub fn words(&self) -> Vec<i64> {
+        [&self.sizes.words(), &self.body[..]].concat()
     }
 
     pub fn image(&self) -> Vec<u8> {
-        bytes(&[&self.sizes.words(), &self.body[..]].concat())
+        bytes(&self.words())
     }
 
     /// The sheet's frames; a body word's double comes from value, which is given the word's index.
     pub fn frames(&self, mut value: impl FnMut(usize) -> u64) -> Vec<Frame> {
-        let Sizes { motors, steps, states, bits, width, iterations } = self.sizes;
+        let Sizes { motors, steps, states, bits, width, iterations, targets } = self.sizes;
+        let [motors, steps, states, targets] = [motors, steps, states, targets].map(|size| size as u8);
         let [high, low] = (iterations as u16).to_be_bytes();
-        let sizes = [1, motors as u8, steps as u8, states as u8, bits as u8, width as u8, 0, high, low, 0, 0];
-        let mut frames = vec![sizes];
+        let mut frames = vec![[1, motors, steps, states, bits as u8, width as u8, targets, high, low, 0, 0]];
         for (i, (section, row, column)) in self.sizes.places().enumerate() {
             let mut frame = [section.kind, row as u8, column as u8, 0, 0, 0, 0, 0, 0, 0, 0];
             frame[3..].copy_from_slice(&value(i).to_be_bytes());

@@ -32,7 +32,7 @@ impl Kind {
         match self {
             Kind::Intake => (&[], &["sheet"]),
             Kind::ColdStart => (&[], &["image"]),
-            Kind::Solve => (&[], &["image", "state", "start"]),
+            Kind::Solve => (&[], &["image", "state", "target", "start"]),
             Kind::ToWord => (&["bits", "b", "w", "up"], &[]),
             Kind::Inward => (&["low_bits", "high_bits", "b", "w"], &[]),
             Kind::ToDouble => (&["value", "b", "w"], &[]),
@@ -71,12 +71,14 @@ pub trait Drive {
     fn call(&self, kind: Kind, numbers: &[u64], inputs: &[&[u8]], out: &mut [u8]) -> Number;
 }
 
-/// Document 01's outcome, or that of a false economy.
+/// The outcome by document 01 and request 1, or that of a false economy.
 pub fn outcome(kind: Kind, numbers: &[u64], inputs: &[&[u8]], out_len: usize, rules: Rules) -> Outcome {
     let result = match (kind, inputs) {
         (Kind::Intake, [sheet]) => sheet::intake_call(sheet, out_len, rules),
-        (Kind::ColdStart, [image]) => solve::cold_start_call(image, out_len),
-        (Kind::Solve, [image, state, start]) => solve::solve_call(image, state, start, out_len, rules),
+        (Kind::ColdStart, [image]) => solve::cold_start_call(image, out_len, rules),
+        (Kind::Solve, &[image, state, target, start]) => {
+            solve::solve_call([image, state, target, start], out_len, rules)
+        }
         _ => return conversion(kind, numbers),
     };
     of_result(result)
@@ -141,6 +143,8 @@ mod linked {
             image_len: usize,
             state: *const u8,
             state_len: usize,
+            target: *const u8,
+            target_len: usize,
             start: *const u8,
             start_len: usize,
             answer: *mut u8,
@@ -159,11 +163,13 @@ mod linked {
                 match (kind, inputs) {
                     (Kind::Intake, [sheet]) => gantry_intake(sheet.as_ptr(), sheet.len(), to, room),
                     (Kind::ColdStart, [image]) => gantry_cold_start(image.as_ptr(), image.len(), to, room),
-                    (Kind::Solve, [image, state, start]) => gantry_solve(
+                    (Kind::Solve, [image, state, target, start]) => gantry_solve(
                         image.as_ptr(),
                         image.len(),
                         state.as_ptr(),
                         state.len(),
+                        target.as_ptr(),
+                        target.len(),
                         start.as_ptr(),
                         start.len(),
                         to,

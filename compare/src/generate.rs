@@ -2,14 +2,17 @@
 
 use crate::double::{Rounding, of_count};
 use crate::draft::{Draft, text};
-use crate::image::{COST, GAIN, HIGH, LOW, MOMENTUM, Number, STATE_LIMIT, Sizes, bytes};
+use crate::image::{
+    COST, GAIN, HIGH, LOW, MOMENTUM, Number, STATE_LIMIT, Sizes, TARGET_GAIN, TARGET_LIMIT, bytes, momentum_fits,
+};
+use crate::label::Folder;
 use crate::random::Random;
-use crate::sheet::{Frame, LINE, hex};
+use crate::sheet::{Frame, LINE, MOST_LINES, hex};
 
 pub const INTAKE_NUMBERS: [Number; 12] = [1, 2, 3, 4, 5, 7, 8, 9, 10, 11, 12, 15];
 pub const COLD_START_NUMBERS: [Number; 10] = [3, 5, 6, 7, 8, 9, 10, 11, 12, 15];
-pub const SOLVE_NUMBERS: [Number; 12] = [3, 5, 6, 7, 8, 9, 10, 11, 12, 13, 14, 15];
-pub const LABEL_NUMBERS: [Number; 12] = [1, 2, 3, 4, 5, 7, 8, 9, 10, 11, 12, 13];
+pub const SOLVE_NUMBERS: [Number; 13] = [3, 5, 6, 7, 8, 9, 10, 11, 12, 13, 16, 14, 15];
+pub const LABEL_NUMBERS: [Number; 13] = [1, 2, 3, 4, 5, 7, 8, 9, 10, 11, 12, 13, 16];
 
 /// What is to be spoilt: the numbers to provoke, and whether bytes are damaged at random besides.
 pub struct Plan {
@@ -36,6 +39,10 @@ impl Plan {
         Plan { numbers: vec![], damage: false }
     }
 
+    pub fn only(number: Number) -> Plan {
+        Plan { numbers: vec![number], damage: false }
+    }
+
     pub fn is_nothing(&self) -> bool {
         self.numbers.is_empty() && !self.damage
     }
@@ -43,9 +50,14 @@ impl Plan {
     fn has(&self, number: Number) -> bool {
         self.numbers.contains(&number)
     }
+
+    /// nr: half of the problems are without targets, but for those that are to meet 16.
+    fn targets(&self, random: &mut Random) -> usize {
+        random.pick(if self.has(16) { &[0, 1, 2, 3, 4] } else { &[0, 0, 0, 0, 1, 2, 3, 4] })
+    }
 }
 
-fn sizes(random: &mut Random) -> Sizes {
+fn sizes(random: &mut Random, targets: usize) -> Sizes {
     let largest = random.one_in(16);
     let all: Vec<(usize, usize)> = (1..=4).flat_map(|nu| (1..=16 / nu).map(move |steps| (nu, steps))).collect();
     let (motors, steps) = random.pick(if largest { &[(1, 16), (2, 8), (4, 4)] } else { &all });
@@ -64,6 +76,7 @@ fn sizes(random: &mut Random) -> Sizes {
         bits: random.between(4, (width - 2).min(20)) as u32,
         width: width as u32,
         iterations: iterations as usize,
+        targets,
     }
 }
 
@@ -99,14 +112,15 @@ fn limits(random: &mut Random, most: i64) -> (i64, i64) {
 
 /// The least β that check 11 lets pass.
 fn least_momentum(draft: &Draft) -> i64 {
-    let mut problem = draft.problem();
-    let (mut least, mut most) = (0, draft.sizes.one() - 1);
+    let (problem, one) = (draft.problem(), draft.sizes.one());
+    let (margin, total) = (problem.least_margin(), problem.largest_total());
+    let (mut least, mut most) = (0, one - 1);
     while least < most {
-        problem.momentum = (least + most) / 2;
-        if problem.momentum_does_not_fit() {
-            least = problem.momentum + 1;
+        let middle = (least + most) / 2;
+        if momentum_fits(one, middle, margin, total) {
+            most = middle;
         } else {
-            most = problem.momentum;
+            least = middle + 1;
         }
     }
     least
@@ -132,8 +146,8 @@ fn choose_limits(random: &mut Random, draft: &mut Draft) {
 }
 
 /// A problem that every check accepts.
-pub fn accepted(random: &mut Random) -> Draft {
-    let sizes = sizes(random);
+fn accepted(random: &mut Random, targets: usize) -> Draft {
+    let sizes = sizes(random, targets);
     let (one, top) = (sizes.one(), sizes.top());
     let mut draft = Draft::new(sizes);
     let table = cost_table(random, &sizes);
@@ -142,16 +156,23 @@ pub fn accepted(random: &mut Random) -> Draft {
     let between = random.between(least, one - 1);
     draft.section(MOMENTUM)[0] = random.pick(&[least, least, between, between, one - 1]);
     choose_limits(random, &mut draft);
-    let most = random.magnitude(top);
-    draft.section(GAIN).iter_mut().for_each(|gain| *gain = random.magnitude(most) * random.sign());
-    draft.section(STATE_LIMIT).iter_mut().for_each(|limit| *limit = random.magnitude(top));
-    halve_to_headroom(&mut draft, if random.one_in(2) { &[GAIN] } else { &[STATE_LIMIT] });
+    for (table, limits) in INPUTS {
+        let most = random.magnitude(top);
+        draft.section(table).iter_mut().for_each(|gain| *gain = random.magnitude(most) * random.sign());
+        draft.section(limits).iter_mut().for_each(|limit| *limit = random.magnitude(top));
+    }
+    let [(state_table, state_limits), (target_table, target_limits)] = INPUTS;
+    let smaller = [[state_table, target_table], [state_limits, target_limits]];
+    halve_to_headroom(&mut draft, &random.pick(&smaller));
     if random.one_in(3) {
         at_headroom(random, &mut draft, 0);
     }
     assert_eq!(draft.problem().check(), Ok(()));
     draft
 }
+
+/// The tables of the linear term with their limits.
+const INPUTS: [(u8, u8); 2] = [(GAIN, STATE_LIMIT), (TARGET_GAIN, TARGET_LIMIT)];
 
 fn halve_to_headroom(draft: &mut Draft, kinds: &[u8]) {
     while draft.problem().leaves_headroom() {
@@ -180,15 +201,17 @@ fn push_to_headroom(draft: &mut Draft, passing: i64, set: impl Fn(&mut Draft, i6
 /// Moves one word, or both limits of a motor together, outward to the last value that check 12 lets pass, and then
 /// beyond it by some counts.
 fn at_headroom(random: &mut Random, draft: &mut Draft, beyond: i64) {
-    let kind = random.pick(&[GAIN, GAIN, STATE_LIMIT, LOW, HIGH]);
+    let without_targets = [GAIN, GAIN, STATE_LIMIT, LOW, HIGH];
+    let with_targets = [GAIN, STATE_LIMIT, TARGET_GAIN, TARGET_GAIN, TARGET_LIMIT, LOW, HIGH];
+    let kind = random.pick(if draft.sizes.targets == 0 { &without_targets[..] } else { &with_targets });
     let (start, length) = draft.sizes.extent(kind);
     let index = random.below(length);
     let both = kind == HIGH && random.one_in(2);
     let old = draft.body[start + index];
     let sign = match kind {
         LOW => -1,
-        GAIN if old != 0 => old.signum(),
-        GAIN => random.sign(),
+        GAIN | TARGET_GAIN if old != 0 => old.signum(),
+        GAIN | TARGET_GAIN => random.sign(),
         _ if both => random.sign(),
         _ => 1,
     };
@@ -235,9 +258,10 @@ fn spoil_tables(random: &mut Random, draft: &mut Draft, number: Number) {
 fn word_beyond(random: &mut Random, draft: &mut Draft) {
     let top = draft.sizes.top();
     if random.one_in(3) {
-        let state = random.below(draft.sizes.states);
+        let kind = if draft.sizes.targets > 0 && random.one_in(2) { TARGET_LIMIT } else { STATE_LIMIT };
+        let limits = draft.section(kind);
         let word = -1 - random.magnitude(top - 1);
-        draft.section(STATE_LIMIT)[state] = random.pick(&[-1, word]);
+        limits[random.below(limits.len())] = random.pick(&[-1, word]);
     } else {
         let index = random.below(draft.body.len());
         draft.body[index] = random.pick(&[top + 1, -top - 1, i32::MIN as i64]);
@@ -248,6 +272,7 @@ pub struct SolveCase {
     pub draft: Draft,
     pub image: Vec<u8>,
     pub state: Vec<u8>,
+    pub target: Vec<u8>,
     pub start: Vec<u8>,
 }
 
@@ -263,22 +288,13 @@ fn values_within(random: &mut Random, limits: &[(i64, i64)]) -> Vec<i64> {
     limits.iter().map(value).collect()
 }
 
-pub fn state_limits(draft: &Draft) -> Vec<(i64, i64)> {
-    draft.problem().input_limits.iter().map(|&limit| (-limit, limit)).collect()
-}
-
-fn command_limits(draft: &Draft) -> Vec<(i64, i64)> {
-    let problem = draft.problem();
-    problem.lower.iter().copied().zip(problem.upper.iter().copied()).collect()
-}
-
-/// The words of a state or start; spoilt, another length or one value beyond its limits.
+/// The words of a state, target or start; spoilt, another length or one value beyond its limits.
 fn words_within(random: &mut Random, limits: &[(i64, i64)], spoilt: bool) -> Vec<u8> {
     let mut values = values_within(random, limits);
     if !spoilt {
         return bytes(&values);
     }
-    if random.one_in(3) {
+    if values.is_empty() || random.one_in(3) {
         return other_length(random, bytes(&values));
     }
     let index = random.below(values.len());
@@ -294,13 +310,17 @@ fn other_length(random: &mut Random, mut buffer: Vec<u8>) -> Vec<u8> {
 }
 
 pub fn other_size(random: &mut Random, size: usize) -> usize {
+    if size == 0 {
+        return random.pick(&[1, 2, 3, 4, 5, 8, 16]);
+    }
     let less = random.below(size);
     random.pick(&[size - 1, size + 1, size - 4, size + 4, size / 2, 2 * size, 0, less])
 }
 
-/// An image with its state and start, spoilt as planned.
+/// An image with its state, target and start, spoilt as planned.
 pub fn solve_case(random: &mut Random, plan: &Plan) -> SolveCase {
-    let mut draft = accepted(random);
+    let targets = plan.targets(random);
+    let mut draft = accepted(random, targets);
     for &number in &plan.numbers {
         spoil_tables(random, &mut draft, number);
     }
@@ -309,20 +329,37 @@ pub fn solve_case(random: &mut Random, plan: &Plan) -> SolveCase {
         spoil_header(random, &draft.sizes, &mut image);
     }
     if plan.has(6) {
-        let short = random.below(32);
-        let length = other_size(random, image.len());
-        image.resize(random.pick(&[short, 31, 32, length, length]), 0);
+        spoil_length(random, targets, &mut image);
     }
-    let mut state = words_within(random, &state_limits(&draft), plan.has(13));
-    let mut start = words_within(random, &command_limits(&draft), plan.has(14));
+    let problem = draft.problem();
+    let mut state = words_within(random, &problem.state_ranges(), plan.has(13));
+    let mut target = words_within(random, &problem.target_ranges(), plan.has(16));
+    let mut start = words_within(random, &problem.command_ranges(), plan.has(14));
     if plan.damage {
         match random.below(8) {
             0 => damage(random, &mut state),
             1 => damage(random, &mut start),
+            2 if targets > 0 => damage(random, &mut target),
             _ => damage(random, &mut image),
         }
     }
-    SolveCase { draft, image, state, start }
+    SolveCase { draft, image, state, target, start }
+}
+
+/// Provokes 6: another length, or another nr in the header.
+fn spoil_length(random: &mut Random, targets: usize, image: &mut Vec<u8>) {
+    if random.one_in(4) {
+        let other = (targets + 1 + random.below(4)) % 5;
+        put_word(image, 6, other as i64);
+        return;
+    }
+    let short = random.below(32);
+    let length = other_size(random, image.len());
+    image.resize(random.pick(&[short, 31, 32, length, length]), 0);
+}
+
+fn put_word(image: &mut [u8], index: usize, word: i64) {
+    image[4 * index..4 * index + 4].copy_from_slice(&bytes(&[word]));
 }
 
 /// The length of an output buffer, spoilt for number 15.
@@ -332,7 +369,7 @@ pub fn out_len(random: &mut Random, plan: &Plan, exact: usize) -> usize {
 
 fn spoil_header(random: &mut Random, sizes: &Sizes, image: &mut [u8]) {
     let words = sizes.words();
-    let [motors, _, _, bits, width, iterations, ..] = words;
+    let [motors, _, states, bits, width, iterations, targets, _] = words;
     let index = random.below(8);
     let beyond: &[i64] = match index {
         0 => &[0, 5, 16],
@@ -341,14 +378,22 @@ fn spoil_header(random: &mut Random, sizes: &Sizes, image: &mut [u8]) {
         3 => &[3, 21, width - 1],
         4 => &[7, 33, bits + 1],
         5 => &[0, 401, iterations + 65536],
+        6 => &[5, targets + 256, targets + 65536],
         _ => &[1, 256],
     };
     let word = random.pick(beyond);
     let word = random.pick(&[word, word, word, -1, -words[index], i32::MIN as i64, i32::MAX as i64, 1 << 24]);
-    image[4 * index..4 * index + 4].copy_from_slice(&bytes(&[word]));
+    put_word(image, index, word);
     if random.one_in(8) {
         // Sizes whose product is small again once it is cut to 32 bits.
         image[..8].copy_from_slice(&bytes(&[1 << 16, 1 << 16]));
+    }
+    if random.one_in(8) {
+        // A state that becomes a target, or the reverse, leaves the length as it is.
+        image[..32].copy_from_slice(&bytes(&words));
+        let moved = random.sign();
+        put_word(image, 2, states + moved);
+        put_word(image, 6, targets - moved);
     }
 }
 
@@ -406,7 +451,8 @@ pub fn edge_doubles(bits: u32, width: u32) -> Vec<u64> {
 
 /// A sheet's text, spoilt as planned, and the draft it was made from.
 pub fn sheet_case(random: &mut Random, plan: &Plan) -> (Draft, Vec<u8>) {
-    let mut draft = accepted(random);
+    let targets = plan.targets(random);
+    let mut draft = accepted(random, targets);
     for &number in &plan.numbers {
         spoil_tables(random, &mut draft, number);
     }
@@ -427,11 +473,11 @@ pub fn sheet_case(random: &mut Random, plan: &Plan) -> (Draft, Vec<u8>) {
 
 /// Provokes 2, 3 or 5 in the frames.
 fn spoil_frames(random: &mut Random, sizes: &Sizes, frames: &mut Vec<Frame>, number: Number) {
-    let line = random.below(frames.len());
+    let line = some_line(random, sizes, frames.len());
     match number {
-        2 => spoil_order(random, frames, line),
+        2 => spoil_order(random, sizes, frames, line),
         3 => {
-            let byte = random.pick(&[1, 2, 3, 4, 5, 7, 8]);
+            let byte = random.pick(&[1, 2, 3, 4, 5, 6, 7, 8]);
             let (bits, width) = (sizes.bits as u8, sizes.width as u8);
             let beyond = match byte {
                 1 => [0, 5, 255],
@@ -439,6 +485,7 @@ fn spoil_frames(random: &mut Random, sizes: &Sizes, frames: &mut Vec<Frame>, num
                 3 => [0, 13, 255],
                 4 => [3, 21, width - 1],
                 5 => [7, 33, bits + 1],
+                6 => [5, 255, random.between(5, 255) as u8],
                 _ => [255, 2, 1],
             };
             frames[0][byte] = random.pick(&beyond);
@@ -455,14 +502,33 @@ fn spoil_frames(random: &mut Random, sizes: &Sizes, frames: &mut Vec<Frame>, num
     }
 }
 
-/// Provokes 2: another kind, row or column, a byte of line 01 that should be 0, lines out of order.
-fn spoil_order(random: &mut Random, frames: &mut Vec<Frame>, line: usize) {
-    let other = random.below(frames.len());
-    match random.below(6) {
+/// The lines of the target table and limits.
+fn target_lines(sizes: &Sizes) -> usize {
+    (sizes.commands() + 1) * sizes.targets
+}
+
+/// Any line, those of the targets often.
+fn some_line(random: &mut Random, sizes: &Sizes, lines: usize) -> usize {
+    let last = target_lines(sizes);
+    if last > 0 && random.one_in(3) { lines - 1 - random.below(last) } else { random.below(lines) }
+}
+
+/// Provokes 2: another kind, row or column, a byte of line 01 that should be 0, another nr, lines out of order.
+fn spoil_order(random: &mut Random, sizes: &Sizes, frames: &mut Vec<Frame>, line: usize) {
+    let other = some_line(random, sizes, frames.len());
+    match random.below(8) {
         0 => frames.swap(line, other),
-        1 => frames.insert(line, frames[other]),
+        1 => frames.insert(line, frames[random.pick(&[line, other])]),
         2 => drop(frames.remove(line)),
-        3 => frames[0][random.pick(&[0, 6, 9, 10])] = random.next() as u8,
+        3 => frames[0][random.pick(&[0, 9, 10])] = random.next() as u8,
+        4 => frames[0][6] = random.below(6) as u8,
+        5 => {
+            // The target limits before their table, or both before the state limits.
+            let targets = target_lines(sizes);
+            let (moved, across) = random.pick(&[(targets, sizes.targets), (targets + sizes.states, targets)]);
+            let first = frames.len() - moved;
+            frames[first..].rotate_right(across);
+        }
         _ => {
             let byte = random.below(3);
             let (old, other) = (frames[line][byte], random.next() as u8);
@@ -488,33 +554,49 @@ fn spoil_text(random: &mut Random, text: &mut Vec<u8>, number: Number) {
         4 if random.one_in(2) => text.truncate(LINE * random.below(lines + 1)),
         4 => {
             let line = text[text.len().saturating_sub(LINE)..].to_vec();
-            let tails: [&[u8]; 8] = [b"\n", b"\0", b"0", b"\r\n", b" ", &line, &line[..line.len() / 2], &[b'0'; 9000]];
+            let [table, limit] = [b"0800000000000000000000\n", b"0900000000000000000000\n"];
+            let half = &line[..line.len() / 2];
+            // The last tail is longer than any sheet.
+            let long = &[b'0'; MOST_LINES * LINE + 1];
+            let tails: [&[u8]; 10] = [b"\n", b"\0", b"0", b"\r\n", b" ", table, limit, &line, half, long];
             text.extend(random.pick(&tails));
         }
         _ => {}
     }
 }
 
-/// The files of a folder; None is a missing one.
-pub struct LabelCase {
-    pub drive: Option<Vec<u8>>,
-    pub state: Option<Vec<u8>>,
-}
-
-pub fn label_case(random: &mut Random, index: u64) -> LabelCase {
+pub fn label_case(random: &mut Random, index: u64) -> Folder {
     let plan = Plan::new(random, index, &LABEL_NUMBERS);
     let (draft, drive) = sheet_case(random, &plan);
-    // A spoilt draft may have a state limit below 0, around which there is no state.
-    let limits: Vec<(i64, i64)> = state_limits(&draft).iter().map(|&(_, high)| (-high.abs(), high.abs())).collect();
-    let mut state = (hex(&words_within(random, &limits, plan.has(13))) + "\n").into_bytes();
-    if plan.has(13) && random.one_in(2) {
-        spoil_state_text(random, &mut state);
+    let problem = draft.problem();
+    let state = word_text(random, &problem.state_ranges(), plan.has(13));
+    let target = match draft.sizes.targets {
+        0 => ignored_text(random),
+        _ => Some(word_text(random, &problem.target_ranges(), plan.has(16))),
+    };
+    let mut folder = Folder { drive: Some(drive), state: Some(state), target };
+    match random.below(24) {
+        0 => folder.drive = None,
+        1 => folder.state = None,
+        2 => folder.target = None,
+        _ => {}
     }
-    let missing = random.below(24);
-    LabelCase { drive: (missing != 0).then_some(drive), state: (missing != 1).then_some(state) }
+    folder
 }
 
-fn spoil_state_text(random: &mut Random, text: &mut Vec<u8>) {
+/// state.hex or target.hex. Spoilt are its values, its form, or both.
+fn word_text(random: &mut Random, ranges: &[(i64, i64)], spoilt: bool) -> Vec<u8> {
+    let (values, form) = random.pick(&[(true, false), (false, true), (true, true)]);
+    // A spoilt draft may have a limit below 0, around which there is no value.
+    let ranges: Vec<(i64, i64)> = ranges.iter().map(|&(_, high)| (-high.abs(), high.abs())).collect();
+    let mut text = (hex(&words_within(random, &ranges, spoilt && values)) + "\n").into_bytes();
+    if spoilt && form {
+        spoil_form(random, &mut text);
+    }
+    text
+}
+
+fn spoil_form(random: &mut Random, text: &mut Vec<u8>) {
     let at = random.below(text.len());
     match random.below(6) {
         0 => text.truncate(at),
@@ -524,4 +606,10 @@ fn spoil_state_text(random: &mut Random, text: &mut Vec<u8>) {
         4 => *text = text.to_ascii_lowercase(),
         _ => text[at] = random.pick(b"abfGg/:@`\r\n \0"),
     }
+}
+
+/// target.hex with nr 0: nobody is to read it.
+fn ignored_text(random: &mut Random) -> Option<Vec<u8>> {
+    let texts: [&[u8]; 7] = [b"", b"\n", b"00000000\n", b"0000000", b"no target\r\n", b"\xFF\0\n", &[b'F'; 5000]];
+    random.pick(&[false, true, true]).then(|| random.pick(&texts).to_vec())
 }

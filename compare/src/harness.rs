@@ -11,6 +11,8 @@ use crate::sheet::hex;
 
 const GUARD: u8 = 0xA5;
 const GUARD_LEN: usize = 32;
+/// 0 to 16.
+pub const NUMBERS: usize = 17;
 /// Failures printed in full; later ones are only counted.
 const PRINTED: u64 = 5;
 
@@ -81,10 +83,11 @@ pub struct Harness<'a> {
     pub passed: u64,
     pub failed: u64,
     /// Comparisons for each call and number.
-    pub met: BTreeMap<&'static str, [u64; 16]>,
-    /// The sizes, and the b and W, of accepted solves.
+    pub met: BTreeMap<&'static str, [u64; NUMBERS]>,
+    /// The sizes, the b and W, and the n and nr of accepted solves.
     pub sizes: BTreeSet<Vec<i64>>,
     pub formats: BTreeSet<Vec<i64>>,
+    pub targets: BTreeSet<(i64, i64)>,
     /// The group and index under way; also in a file, for whoever finds the program crashed.
     place: (&'static str, u64),
     place_file: Option<File>,
@@ -101,6 +104,7 @@ impl<'a> Harness<'a> {
             met: BTreeMap::new(),
             sizes: BTreeSet::new(),
             formats: BTreeSet::new(),
+            targets: BTreeSet::new(),
             place: ("", 0),
             place_file,
             quiet: false,
@@ -120,7 +124,7 @@ impl<'a> Harness<'a> {
         }
     }
 
-    /// Compares one call, and returns what document 01 expects of it.
+    /// Compares one call, and returns what the papers expect of it.
     pub fn compare(&mut self, call: &Call) -> Outcome {
         let inputs: Vec<&[u8]> = call.inputs.iter().map(Vec::as_slice).collect();
         let expected = outcome(call.kind, &call.numbers, &inputs, call.out_len, Rules::default());
@@ -130,6 +134,7 @@ impl<'a> Harness<'a> {
             let header = words(&call.inputs[0][..4 * HEADER_WORDS]);
             self.sizes.insert(header[..3].to_vec());
             self.formats.insert(header[3..5].to_vec());
+            self.targets.insert((header[0] * header[1], header[6]));
         }
         let agrees = observed.as_ref() == Ok(&expected);
         self.check(agrees, || describe(call, &expected, &observed));
@@ -137,7 +142,7 @@ impl<'a> Harness<'a> {
     }
 
     pub fn meet(&mut self, call: &'static str, number: Number) {
-        self.met.entry(call).or_insert([0; 16])[number as usize] += 1;
+        self.met.entry(call).or_insert([0; NUMBERS])[number as usize] += 1;
     }
 
     /// Counts one comparison; the description is asked for only when it fails.

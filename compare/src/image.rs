@@ -1,6 +1,9 @@
 //! The image: its layout, and the checks 6, 3, 6, 5 and 7 to 12 in their order.
 
+use std::ops::Index;
+
 use crate::double::Rounding::{self, Down, Up};
+use crate::rules::Rules;
 
 /// The number of a refusal; 0 where a call is accepted.
 pub type Number = u32;
@@ -24,6 +27,8 @@ pub struct Sizes {
     pub bits: u32,
     pub width: u32,
     pub iterations: usize,
+    /// nr.
+    pub targets: usize,
 }
 
 /// A run of sheet lines and of image words: the same table, limit list or factor in both.
@@ -35,17 +40,31 @@ pub struct Section {
     pub rounding: Rounding,
 }
 
+impl Section {
+    /// Number 5 beside the word's range: a state's or a target's limit is not below 0.
+    pub fn admits(&self, word: i64, rules: Rules) -> bool {
+        let has_signs = match self.kind {
+            STATE_LIMIT => false,
+            TARGET_LIMIT => rules.target_limit_below_zero,
+            _ => true,
+        };
+        has_signs || word >= 0
+    }
+}
+
 pub const COST: u8 = 2;
 pub const GAIN: u8 = 3;
 pub const LOW: u8 = 4;
 pub const HIGH: u8 = 5;
 pub const MOMENTUM: u8 = 6;
 pub const STATE_LIMIT: u8 = 7;
+pub const TARGET_GAIN: u8 = 8;
+pub const TARGET_LIMIT: u8 = 9;
 
 impl Sizes {
     /// None is number 3.
     pub fn of_words(words: &[i64]) -> Option<Sizes> {
-        let [motors, steps, states, bits, width, iterations, 0, 0] = *words else {
+        let [motors, steps, states, bits, width, iterations, targets, 0] = *words else {
             return None;
         };
         let fit = (1..=4).contains(&motors)
@@ -53,7 +72,8 @@ impl Sizes {
             && motors * steps <= 16
             && (1..=12).contains(&states)
             && sizes_of_word_fit(bits, width)
-            && (1..=400).contains(&iterations);
+            && (1..=400).contains(&iterations)
+            && (0..=4).contains(&targets);
         fit.then_some(Sizes {
             motors: motors as usize,
             steps: steps as usize,
@@ -61,12 +81,15 @@ impl Sizes {
             bits: bits as u32,
             width: width as u32,
             iterations: iterations as usize,
+            targets: targets as usize,
         })
     }
 
     pub fn words(&self) -> [i64; HEADER_WORDS] {
-        let &Sizes { motors, steps, states, bits, width, iterations } = self;
-        [motors as i64, steps as i64, states as i64, bits as i64, width as i64, iterations as i64, 0, 0]
+        let &Sizes { motors, steps, states, bits, width, iterations, targets } = self;
+        let [motors, steps, states, iterations, targets] =
+            [motors, steps, states, iterations, targets].map(|size| size as i64);
+        [motors, steps, states, bits as i64, width as i64, iterations, targets, 0]
     }
 
     pub fn commands(&self) -> usize {
@@ -82,7 +105,7 @@ impl Sizes {
         top(self.width)
     }
 
-    pub fn sections(&self) -> [Section; 6] {
+    pub fn sections(&self) -> [Section; 8] {
         let n = self.commands();
         let section = |kind, rows, columns, rounding| Section { kind, rows, columns, rounding };
         [
@@ -92,6 +115,8 @@ impl Sizes {
             section(HIGH, self.motors, 1, Down),
             section(MOMENTUM, 1, 1, Up),
             section(STATE_LIMIT, self.states, 1, Up),
+            section(TARGET_GAIN, n, self.targets, Down),
+            section(TARGET_LIMIT, self.targets, 1, Up),
         ]
     }
 
@@ -124,15 +149,37 @@ impl Sizes {
     }
 }
 
-/// What the tables of an image say. Limits are per command, and the linear term has one list of inputs.
+/// A table in one piece, since generators make very many. It has a column at least.
+pub struct Table {
+    columns: usize,
+    entries: Vec<i64>,
+}
+
+impl Table {
+    pub fn rows(&self) -> impl Iterator<Item = &[i64]> {
+        self.entries.chunks(self.columns)
+    }
+}
+
+impl Index<usize> for Table {
+    type Output = [i64];
+
+    fn index(&self, row: usize) -> &[i64] {
+        &self.entries[row * self.columns..(row + 1) * self.columns]
+    }
+}
+
+/// What the tables of an image say. Limits are per command, and the linear term has one list of inputs: the state, then
+/// the target.
 pub struct Problem {
     pub sizes: Sizes,
+    pub rules: Rules,
     /// H.
-    pub cost: Vec<Vec<i64>>,
+    pub cost: Table,
     /// M: 2^b on the diagonal less H.
-    pub descent: Vec<Vec<i64>>,
-    /// Φ.
-    pub gains: Vec<Vec<i64>>,
+    pub descent: Table,
+    /// Φ, and in the same row the target table.
+    pub gains: Table,
     pub lower: Vec<i64>,
     pub upper: Vec<i64>,
     pub momentum: i64,
@@ -140,26 +187,41 @@ pub struct Problem {
 }
 
 impl Problem {
-    pub fn new(sizes: Sizes, body: &[i64]) -> Problem {
+    pub fn new(sizes: Sizes, body: &[i64], rules: Rules) -> Problem {
         let n = sizes.commands();
         let section = |kind| {
             let (start, length) = sizes.extent(kind);
             &body[start..start + length]
         };
-        let rows = |kind, columns| section(kind).chunks(columns).map(<[i64]>::to_vec).collect();
         let per_command = |kind| section(kind).iter().copied().cycle().take(n).collect();
-        let cost: Vec<Vec<i64>> = rows(COST, n);
-        let diagonal = |i, j| if i == j { sizes.one() } else { 0 };
+        let cost = section(COST).to_vec();
+        let mut descent: Vec<i64> = cost.iter().map(|entry| -entry).collect();
+        descent.iter_mut().step_by(n + 1).for_each(|entry| *entry += sizes.one());
         Problem {
             sizes,
-            descent: (0..n).map(|i| (0..n).map(|j| diagonal(i, j) - cost[i][j]).collect()).collect(),
-            cost,
-            gains: rows(GAIN, sizes.states),
+            rules,
+            cost: Table { columns: n, entries: cost },
+            descent: Table { columns: n, entries: descent },
+            gains: beside(n, section(GAIN), section(TARGET_GAIN)),
             lower: per_command(LOW),
             upper: per_command(HIGH),
             momentum: section(MOMENTUM)[0],
-            input_limits: section(STATE_LIMIT).to_vec(),
+            input_limits: [section(STATE_LIMIT), section(TARGET_LIMIT)].concat(),
         }
+    }
+
+    /// What each command is held to.
+    pub fn command_ranges(&self) -> Vec<(i64, i64)> {
+        self.lower.iter().copied().zip(self.upper.iter().copied()).collect()
+    }
+
+    /// Minus and plus each state's limit.
+    pub fn state_ranges(&self) -> Vec<(i64, i64)> {
+        ranges(&self.input_limits[..self.sizes.states])
+    }
+
+    pub fn target_ranges(&self) -> Vec<(i64, i64)> {
+        ranges(&self.input_limits[self.sizes.states..])
     }
 
     /// w.
@@ -189,7 +251,7 @@ impl Problem {
     }
 
     fn is_not_symmetric(&self) -> bool {
-        let n = self.cost.len();
+        let n = self.sizes.commands();
         (0..n).any(|i| (0..i).any(|j| self.cost[i][j] != self.cost[j][i]))
     }
 
@@ -200,19 +262,18 @@ impl Problem {
     }
 
     pub fn least_margin(&self) -> i64 {
-        let margins = (0..self.cost.len()).map(|i| self.cost[i][i] - self.radius(i));
+        let margins = (0..self.sizes.commands()).map(|i| self.cost[i][i] - self.radius(i));
         margins.min().unwrap()
     }
 
     pub fn largest_total(&self) -> i64 {
-        let totals = (0..self.cost.len()).map(|i| self.cost[i][i] + self.radius(i));
+        let totals = (0..self.sizes.commands()).map(|i| self.cost[i][i] + self.radius(i));
         totals.max().unwrap()
     }
 
-    pub fn momentum_does_not_fit(&self) -> bool {
-        let (one, momentum) = (self.sizes.one() as i128, self.momentum as i128);
-        let (margin, total) = (self.least_margin() as i128, self.largest_total() as i128);
-        !(0..one).contains(&momentum) || (one + momentum).pow(2) * margin < (one - momentum).pow(2) * total
+    fn momentum_does_not_fit(&self) -> bool {
+        let (margin, total) = (self.least_margin(), self.largest_total());
+        !momentum_fits(self.sizes.one(), self.momentum, margin, total)
     }
 
     /// Over 2^b, rounded up.
@@ -233,10 +294,12 @@ impl Problem {
             }
             point_bounds.push(point_bound);
         }
-        let input_bounds: Vec<i128> = self.input_limits.iter().map(|&limit| limit as i128).collect();
-        let rows = self.descent.iter().zip(&self.gains);
-        rows.into_iter()
-            .any(|(descent, gains)| self.row_bound(descent, &point_bounds) + self.row_bound(gains, &input_bounds) > top)
+        let mut input_bounds: Vec<i128> = self.input_limits.iter().map(|&limit| limit as i128).collect();
+        if self.rules.headroom_without_targets {
+            input_bounds.truncate(self.sizes.states);
+        }
+        let mut rows = self.descent.rows().zip(self.gains.rows());
+        rows.any(|(descent, gains)| self.row_bound(descent, &point_bounds) + self.row_bound(gains, &input_bounds) > top)
     }
 
     /// A, or B: each term is rounded up.
@@ -246,8 +309,29 @@ impl Problem {
     }
 }
 
+/// Check 11 for a least margin and a largest total.
+pub fn momentum_fits(one: i64, momentum: i64, margin: i64, total: i64) -> bool {
+    let [one, momentum, margin, total] = [one, momentum, margin, total].map(i128::from);
+    (0..one).contains(&momentum) && (one + momentum).pow(2) * margin >= (one - momentum).pow(2) * total
+}
+
+/// Two tables of n rows as one, the second of which may be without columns.
+fn beside(n: usize, left: &[i64], right: &[i64]) -> Table {
+    let (l, r) = (left.len() / n, right.len() / n);
+    let mut entries = Vec::with_capacity(left.len() + right.len());
+    for i in 0..n {
+        entries.extend_from_slice(&left[i * l..(i + 1) * l]);
+        entries.extend_from_slice(&right[i * r..(i + 1) * r]);
+    }
+    Table { columns: l + r, entries }
+}
+
+fn ranges(limits: &[i64]) -> Vec<(i64, i64)> {
+    limits.iter().map(|&limit| (-limit, limit)).collect()
+}
+
 /// An accepted image's problem.
-pub fn open(image: &[u8]) -> Result<Problem, Number> {
+pub fn open(image: &[u8], rules: Rules) -> Result<Problem, Number> {
     if image.len() < 4 * HEADER_WORDS {
         return Err(6);
     }
@@ -258,11 +342,11 @@ pub fn open(image: &[u8]) -> Result<Problem, Number> {
     }
     let body = words(body);
     for ((section, _, _), &word) in sizes.places().zip(&body) {
-        if word.abs() > sizes.top() || section.kind == STATE_LIMIT && word < 0 {
+        if word.abs() > sizes.top() || !section.admits(word, rules) {
             return Err(5);
         }
     }
-    let problem = Problem::new(sizes, &body);
+    let problem = Problem::new(sizes, &body, rules);
     problem.check()?;
     Ok(problem)
 }

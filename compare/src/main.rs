@@ -1,4 +1,5 @@
-//! The second program: document 01 implemented on its own, beside the static library and the label program.
+//! The second program: document 01 and request 1 implemented on their own, beside the static library and the label
+//! program.
 
 mod big;
 mod cases;
@@ -6,6 +7,7 @@ mod double;
 mod draft;
 mod drive;
 mod economies;
+mod former;
 mod generate;
 mod harness;
 mod image;
@@ -22,7 +24,7 @@ use std::process::ExitCode;
 use std::time::Instant;
 
 use drive::Drive;
-use harness::Harness;
+use harness::{Harness, NUMBERS};
 use image::Number;
 
 const USAGE: &str = "compare [--seed N] [--count N | --long] [--only GROUP:INDEX] [--self] [--work FOLDER]
@@ -30,7 +32,7 @@ compare --label acts as the label program in the current folder";
 /// Random solves of a run; the other groups are in proportion.
 const COUNT: u64 = 100_000;
 const LONG_COUNT: u64 = 20 * COUNT;
-/// From this count on a run has to have met every number of every call, and every size.
+/// From this count on a run has to have met every number of every call, every size, and every nr with every n.
 const COVERING_COUNT: u64 = 20_000;
 
 struct Options {
@@ -125,7 +127,7 @@ fn print_numbers(harness: &Harness) {
         let cells: String = cells.iter().map(|cell| format!("{cell:>8}")).collect();
         println!("{name:<10}{cells}");
     };
-    row("number", (0..16).map(|number| number.to_string()).collect());
+    row("number", (0..NUMBERS).map(|number| number.to_string()).collect());
     for (call, numbers) in &harness.met {
         let cell = |&count: &u64| {
             if count == 0 { "-".to_string() } else { count.to_string() }
@@ -155,7 +157,8 @@ fn require_cover(harness: &mut Harness) {
             harness.check(met[number as usize] > 0, || format!("  {call} never answered {number}"));
         }
     }
-    let (sizes, formats) = (harness.sizes.len(), harness.formats.len());
-    println!("accepted solves: {sizes} of 396 sizes, {formats} of 320 pairs of b and W");
-    harness.check((sizes, formats) == (396, 320), || "  some sizes were never solved".to_string());
+    let covered = [harness.sizes.len(), harness.formats.len(), harness.targets.len()];
+    let [sizes, formats, targets] = covered;
+    println!("accepted solves: {sizes} of 396 sizes, {formats} of 320 pairs of b and W, {targets} of 80 of n and nr");
+    harness.check(covered == [396, 320, 80], || "  some sizes were never solved".to_string());
 }

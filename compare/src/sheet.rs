@@ -1,11 +1,13 @@
 //! The design sheet: its lines, the checks 1 to 5, and the accepted sheet's image.
 
-use crate::double::{Rounding, to_word};
-use crate::image::{LOW, Number, Problem, STATE_LIMIT, Section, Sizes, bytes};
+use crate::double::to_word;
+use crate::image::{LOW, Number, Problem, Section, Sizes, TARGET_GAIN, TARGET_LIMIT, bytes};
 use crate::rules::Rules;
 
 pub const FRAME: usize = 11;
 pub const LINE: usize = 2 * FRAME + 1;
+/// The lines of 4 motors, 4 steps, 12 states and 4 targets.
+pub const MOST_LINES: usize = 1 + 16 * 16 + 16 * 12 + 2 * 4 + 1 + 12 + 16 * 4 + 4;
 
 /// Kind, row, column and the eight value bytes.
 pub type Frame = [u8; FRAME];
@@ -41,14 +43,14 @@ fn next_frame(text: &mut &[u8]) -> Result<Frame, Number> {
     Ok(frame.try_into().unwrap())
 }
 
-/// Line 01. Its 0 bytes are 2, its sizes 3.
+/// Line 01. Its two 0 bytes are 2, its sizes 3.
 fn sizes(frame: &Frame) -> Result<Sizes, Number> {
-    let &[1, motors, steps, states, bits, width, 0, high, low, 0, 0] = frame else {
+    let &[1, motors, steps, states, bits, width, targets, high, low, 0, 0] = frame else {
         return Err(2);
     };
-    let [motors, steps, states, bits, width] = [motors, steps, states, bits, width].map(i64::from);
+    let [motors, steps, states, bits, width, targets] = [motors, steps, states, bits, width, targets].map(i64::from);
     let iterations = i64::from(u16::from_be_bytes([high, low]));
-    Sizes::of_words(&[motors, steps, states, bits, width, iterations, 0, 0]).ok_or(3)
+    Sizes::of_words(&[motors, steps, states, bits, width, iterations, targets, 0]).ok_or(3)
 }
 
 /// The sheet's sizes and body words, before the checks of the tables.
@@ -67,16 +69,21 @@ pub fn read(mut text: &[u8], rules: Rules) -> Result<(Sizes, Vec<i64>), Number> 
 }
 
 fn word(sizes: &Sizes, section: &Section, double: u64, rules: Rules) -> Option<i64> {
-    let economy = rules.round_low_limit_down && section.kind == LOW;
-    let rounding = if economy { Rounding::Down } else { section.rounding };
+    let economy = match section.kind {
+        LOW => rules.round_low_limit_down,
+        TARGET_GAIN => rules.round_target_table_up,
+        TARGET_LIMIT => rules.round_target_limit_down,
+        _ => false,
+    };
+    let rounding = if economy { section.rounding.opposite() } else { section.rounding };
     let word = to_word(double, sizes.bits, sizes.width, rounding)?;
-    (section.kind != STATE_LIMIT || word >= 0).then_some(word)
+    section.admits(word, rules).then_some(word)
 }
 
 /// The sheet's image, unless a check up to 12 refuses it.
 pub fn image(text: &[u8], rules: Rules) -> Result<Vec<u8>, Number> {
     let (sizes, body) = read(text, rules)?;
-    Problem::new(sizes, &body).check()?;
+    Problem::new(sizes, &body, rules).check()?;
     Ok(bytes(&[&sizes.words(), &body[..]].concat()))
 }
 

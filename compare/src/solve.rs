@@ -1,13 +1,12 @@
 //! One solve: the rounded scheme, its error bound, and the exact scheme beside them.
 
 use crate::big::Big;
-use crate::image::{Number, Problem, bytes, open, words};
+use crate::image::{Number, Problem, Sizes, bytes, open, words};
 use crate::rules::Rules;
 
 /// The rounded scheme. Sums are exact, so the order in which document 01 takes them is left to the drive.
 pub struct Rounded<'a> {
     problem: &'a Problem,
-    rules: Rules,
     /// h.
     pub linear: Vec<i64>,
     pub t: Vec<i64>,
@@ -16,16 +15,25 @@ pub struct Rounded<'a> {
 }
 
 impl<'a> Rounded<'a> {
-    pub fn new(problem: &'a Problem, inputs: &[i64], start: &[i64], rules: Rules) -> Rounded<'a> {
+    /// The inputs are the state, then the target.
+    pub fn new(problem: &'a Problem, inputs: &[i64], start: &[i64]) -> Rounded<'a> {
         let mut scheme =
-            Rounded { problem, rules, linear: Vec::new(), t: start.to_vec(), z: start.to_vec(), y: start.to_vec() };
-        scheme.linear = problem.gains.iter().map(|row| scheme.terms(row, inputs).sum()).collect();
+            Rounded { problem, linear: Vec::new(), t: start.to_vec(), z: start.to_vec(), y: start.to_vec() };
+        scheme.linear = problem.gains.rows().map(|row| scheme.linear_term(row, inputs)).collect();
         scheme
+    }
+
+    fn linear_term(&self, row: &[i64], inputs: &[i64]) -> i64 {
+        if self.problem.rules.linear_term_rounded_once {
+            return undivided(row, inputs) >> self.problem.sizes.bits;
+        }
+        self.terms(row, inputs).sum()
     }
 
     /// A product of two words over 2^b, rounded toward minus infinity.
     pub fn product(&self, a: i64, b: i64) -> i64 {
-        if self.rules.round_toward_zero { a * b / self.problem.sizes.one() } else { (a * b) >> self.problem.sizes.bits }
+        let sizes = &self.problem.sizes;
+        if self.problem.rules.round_toward_zero { a * b / sizes.one() } else { (a * b) >> sizes.bits }
     }
 
     pub fn terms<'b>(&'b self, row: &'b [i64], vector: &'b [i64]) -> impl Iterator<Item = i64> + 'b {
@@ -35,12 +43,12 @@ impl<'a> Rounded<'a> {
     pub fn step(&mut self) {
         let problem = self.problem;
         let (one, momentum) = (problem.sizes.one(), problem.momentum);
-        let rows = problem.descent.iter().zip(&self.linear);
+        let rows = problem.descent.rows().zip(&self.linear);
         self.t = rows.map(|(row, linear)| self.terms(row, &self.y).sum::<i64>() - linear).collect();
         for k in 0..self.z.len() {
             let old = self.z[k];
             self.z[k] = self.t[k].clamp(problem.lower[k], problem.upper[k]);
-            let new = if self.rules.momentum_from_unclamped { self.t[k] } else { self.z[k] };
+            let new = if problem.rules.momentum_from_unclamped { self.t[k] } else { self.z[k] };
             self.y[k] = self.product(one + momentum, new) - self.product(momentum, old);
         }
     }
@@ -49,7 +57,6 @@ impl<'a> Rounded<'a> {
 /// The error bound's recurrence, in counts.
 pub struct ErrorBound<'a> {
     problem: &'a Problem,
-    rules: Rules,
     pub e: Vec<i64>,
     previous: Vec<i64>,
     /// q.
@@ -57,10 +64,17 @@ pub struct ErrorBound<'a> {
 }
 
 impl<'a> ErrorBound<'a> {
-    pub fn new(problem: &'a Problem, rules: Rules) -> ErrorBound<'a> {
+    pub fn new(problem: &'a Problem) -> ErrorBound<'a> {
         let zeros = vec![0; problem.lower.len()];
-        let first = vec![i64::from(rules.first_q_is_one); problem.lower.len()];
-        ErrorBound { problem, rules, e: zeros.clone(), previous: zeros, point: first }
+        let first = vec![i64::from(problem.rules.first_q_is_one); problem.lower.len()];
+        ErrorBound { problem, e: zeros.clone(), previous: zeros, point: first }
+    }
+
+    /// c.
+    fn rounding(&self) -> i64 {
+        let (n, Sizes { states, targets, .. }) = (self.problem.sizes.commands(), self.problem.sizes);
+        let c = self.problem.rules.other_c.unwrap_or(|n, nx, nr| n.max(nx + nr));
+        c(n, states, targets) as i64
     }
 
     fn up(&self, product: i64) -> i64 {
@@ -69,11 +83,11 @@ impl<'a> ErrorBound<'a> {
 
     pub fn step(&mut self) {
         let problem = self.problem;
-        let rounding = problem.lower.len().max(problem.input_limits.len()) as i64;
+        let rounding = self.rounding();
         let bound = |k: usize| {
             let sum = problem.descent[k].iter().zip(&self.point).map(|(m, q)| m.abs() * q).sum();
             // What the answer's word can hold is all that is left without w.
-            let most = if self.rules.width_left_out { u32::MAX as i64 } else { problem.width(k) };
+            let most = if problem.rules.width_left_out { u32::MAX as i64 } else { problem.width(k) };
             most.min(self.up(sum) + rounding)
         };
         let new = (0..self.e.len()).map(bound).collect();
@@ -95,10 +109,9 @@ pub struct Exact<'a> {
 
 impl<'a> Exact<'a> {
     pub fn new(problem: &'a Problem, inputs: &[i64], start: &[i64]) -> Exact<'a> {
-        let sum = |row: &Vec<i64>| row.iter().zip(inputs).map(|(a, b)| a * b).sum();
         Exact {
             problem,
-            linear: problem.gains.iter().map(sum).collect(),
+            linear: problem.gains.rows().map(|row| undivided(row, inputs)).collect(),
             scale: Big::new(1),
             commands: start.iter().map(|&z| Big::new(z)).collect(),
             point: start.iter().map(|&z| Big::new(z).times(problem.sizes.one())).collect(),
@@ -135,15 +148,20 @@ impl<'a> Exact<'a> {
     }
 }
 
+/// An accepted row's products all together stay below top × 2^b, by its headroom.
+fn undivided(row: &[i64], inputs: &[i64]) -> i64 {
+    row.iter().zip(inputs).map(|(a, b)| a * b).sum()
+}
+
 pub fn cold_start(problem: &Problem) -> Vec<i64> {
     let limits = problem.lower.iter().zip(&problem.upper);
     limits.map(|(&lower, &upper)| 0.clamp(lower, upper)).collect()
 }
 
 /// The commands, then the bounds.
-pub fn answer(problem: &Problem, inputs: &[i64], start: &[i64], rules: Rules) -> (Vec<i64>, Vec<i64>) {
-    let mut scheme = Rounded::new(problem, inputs, start, rules);
-    let mut bound = ErrorBound::new(problem, rules);
+pub fn answer(problem: &Problem, inputs: &[i64], start: &[i64]) -> (Vec<i64>, Vec<i64>) {
+    let mut scheme = Rounded::new(problem, inputs, start);
+    let mut bound = ErrorBound::new(problem);
     for _ in 0..problem.sizes.iterations {
         scheme.step();
         bound.step();
@@ -152,15 +170,18 @@ pub fn answer(problem: &Problem, inputs: &[i64], start: &[i64], rules: Rules) ->
 }
 
 /// Number 13: the state is nx words within their limits.
-pub fn read_inputs(problem: &Problem, state: &[u8]) -> Result<Vec<i64>, Number> {
-    let limits: Vec<(i64, i64)> = problem.input_limits.iter().map(|&limit| (-limit, limit)).collect();
-    read_within(state, &limits).ok_or(13)
+pub fn read_state(problem: &Problem, state: &[u8]) -> Result<Vec<i64>, Number> {
+    read_within(state, &problem.state_ranges()).ok_or(13)
+}
+
+/// Number 16, directly after 13: the target is nr words within their limits. With nr 0 only the empty one is.
+pub fn read_target(problem: &Problem, target: &[u8]) -> Result<Vec<i64>, Number> {
+    read_within(target, &problem.target_ranges()).ok_or(16)
 }
 
 /// Number 14: the start is n words within the commands' limits.
 pub fn read_start(problem: &Problem, start: &[u8]) -> Result<Vec<i64>, Number> {
-    let limits: Vec<(i64, i64)> = problem.lower.iter().copied().zip(problem.upper.iter().copied()).collect();
-    read_within(start, &limits).ok_or(14)
+    read_within(start, &problem.command_ranges()).ok_or(14)
 }
 
 fn read_within(bytes: &[u8], limits: &[(i64, i64)]) -> Option<Vec<i64>> {
@@ -173,19 +194,20 @@ fn read_within(bytes: &[u8], limits: &[(i64, i64)]) -> Option<Vec<i64>> {
 }
 
 /// The exported cold start.
-pub fn cold_start_call(image: &[u8], out_len: usize) -> Result<Vec<u8>, Number> {
-    let start = bytes(&cold_start(&open(image)?));
+pub fn cold_start_call(image: &[u8], out_len: usize, rules: Rules) -> Result<Vec<u8>, Number> {
+    let start = bytes(&cold_start(&open(image, rules)?));
     if start.len() == out_len { Ok(start) } else { Err(15) }
 }
 
-/// The exported solve.
-pub fn solve_call(image: &[u8], state: &[u8], start: &[u8], out_len: usize, rules: Rules) -> Result<Vec<u8>, Number> {
-    let problem = open(image)?;
-    let inputs = read_inputs(&problem, state)?;
+/// The exported solve, of an image, a state, a target and a start.
+pub fn solve_call(lent: [&[u8]; 4], out_len: usize, rules: Rules) -> Result<Vec<u8>, Number> {
+    let [image, state, target, start] = lent;
+    let problem = open(image, rules)?;
+    let inputs = [read_state(&problem, state)?, read_target(&problem, target)?].concat();
     let start = read_start(&problem, start)?;
     if out_len != 8 * start.len() {
         return Err(15);
     }
-    let (commands, bounds) = answer(&problem, &inputs, &start, rules);
+    let (commands, bounds) = answer(&problem, &inputs, &start);
     Ok([bytes(&commands), bytes(&bounds)].concat())
 }

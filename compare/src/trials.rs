@@ -5,18 +5,20 @@ use std::fs::{canonicalize, create_dir_all};
 use std::path::Path;
 
 use crate::big::Big;
-use crate::cases;
+use crate::cases::{self, label_table};
 use crate::double::{self, Rounding};
 use crate::draft::Draft;
 use crate::drive::{Call, Kind};
 use crate::economies;
+use crate::former::Former;
 use crate::generate::{self, Plan, SolveCase};
 use crate::harness::{Harness, Lent};
-use crate::image::{Problem, bytes, sizes_of_word_fit, top, words};
+use crate::image::{Problem, Sizes, bytes, sizes_of_word_fit, top, words};
 use crate::label;
 use crate::random::Random;
 use crate::rules::Rules;
-use crate::solve::{ErrorBound, Exact, Rounded};
+use crate::sheet::{LINE, MOST_LINES};
+use crate::solve::{ErrorBound, Exact, Rounded, solve_call};
 
 type Trial = Box<dyn Fn(&mut Harness, u64, &mut Random)>;
 
@@ -62,19 +64,19 @@ pub fn groups(count: u64, has_conversions: bool, work: &Path) -> Vec<Group> {
 
 fn label_group(count: u64, program: &OsStr, work: &Path) -> Group {
     let program = canonicalize(program).expect("GANTRY_LABEL is a program");
-    let folder = work.join("label");
-    create_dir_all(&folder).expect("the folder can be made");
+    let place = work.join("label");
+    create_dir_all(&place).expect("the folder can be made");
     let trial = move |harness: &mut Harness, index: u64, random: &mut Random| {
-        label::run(harness, &program, &folder, index, random);
+        label::run(harness, &program, &place, index, random);
     };
-    Group { name: "label", count, trial: Box::new(trial) }
+    Group { name: "label", count: count + label_table().len() as u64, trial: Box::new(trial) }
 }
 
 fn solve(harness: &mut Harness, index: u64, random: &mut Random) {
     let plan = Plan::new(random, index, &generate::SOLVE_NUMBERS);
-    let SolveCase { draft, image, state, start } = generate::solve_case(random, &plan);
+    let SolveCase { draft, image, state, target, start } = generate::solve_case(random, &plan);
     let out_len = generate::out_len(random, &plan, 8 * draft.sizes.commands());
-    harness.compare(&Call::on_buffers(Kind::Solve, &[&image, &state, &start], out_len));
+    harness.compare(&Call::on_buffers(Kind::Solve, &[&image, &state, &target, &start], out_len));
 }
 
 fn cold_start(harness: &mut Harness, index: u64, random: &mut Random) {
@@ -96,9 +98,9 @@ fn intake(harness: &mut Harness, index: u64, random: &mut Random) {
     }
 }
 
-/// Two small problems, whose bytes are damaged one by one.
-fn victims() -> [Draft; 2] {
-    [cases::sample(), cases::two_motors()]
+/// Small problems, whose bytes are damaged one by one.
+fn victims() -> [Draft; 3] {
+    [cases::sample(), cases::two_motors(), cases::two_targets()]
 }
 
 fn damaged_bytes() -> u64 {
@@ -118,10 +120,11 @@ fn damage(harness: &mut Harness, index: u64, _: &mut Random) {
         }
         index -= sheet.len();
         if index < image.len() {
-            let (state, start) = (bytes(&vec![0; draft.sizes.states]), bytes(&vec![0; n]));
+            let zeros = |length: usize| vec![0u8; 4 * length];
+            let (state, target, start) = (zeros(draft.sizes.states), zeros(draft.sizes.targets), zeros(n));
             for image in damaged(&image, index) {
                 harness.compare(&Call::on_buffers(Kind::ColdStart, &[&image], 4 * n));
-                harness.compare(&Call::on_buffers(Kind::Solve, &[&image, &state, &start], 8 * n));
+                harness.compare(&Call::on_buffers(Kind::Solve, &[&image, &state, &target, &start], 8 * n));
             }
             return;
         }
@@ -136,14 +139,14 @@ fn damaged(buffer: &[u8], index: usize) -> Vec<Vec<u8>> {
 
 /// Demand 3 tried: every sweep beside the exact scheme, and the drive's answers for fewer sweeps.
 fn demand3(harness: &mut Harness, index: u64, random: &mut Random) {
-    let SolveCase { mut draft, state, start, .. } = generate::solve_case(random, &Plan::nothing());
+    let SolveCase { mut draft, state, target, start, .. } = generate::solve_case(random, &Plan::nothing());
     if index.is_multiple_of(50) {
         draft.sizes.iterations = 400;
     }
     let (problem, iterations) = (draft.problem(), draft.sizes.iterations);
-    let (inputs, start_words) = (words(&state), words(&start));
-    let mut rounded = Rounded::new(&problem, &inputs, &start_words, Rules::default());
-    let mut bound = ErrorBound::new(&problem, Rules::default());
+    let (inputs, start_words) = ([words(&state), words(&target)].concat(), words(&start));
+    let mut rounded = Rounded::new(&problem, &inputs, &start_words);
+    let mut bound = ErrorBound::new(&problem);
     let mut exact = Exact::new(&problem, &inputs, &start_words);
     let mut holds = linear_in_range(&problem, &rounded, &inputs) && iterates_in_range(&problem, &rounded);
     for iteration in 1..=iterations {
@@ -156,7 +159,7 @@ fn demand3(harness: &mut Harness, index: u64, random: &mut Random) {
         // All prefixes of a short run, some of a long one.
         if iteration <= 8 || iteration == iterations || random.one_in(iterations / 8 + 1) {
             let image = draft.clone().iterations(iteration).image();
-            let call = Call::on_buffers(Kind::Solve, &[&image, &state, &start], 8 * start_words.len());
+            let call = Call::on_buffers(Kind::Solve, &[&image, &state, &target, &start], 8 * start_words.len());
             let outcome = harness.compare(&call);
             let prefix = Some([bytes(&rounded.z), bytes(&bound.e)].concat());
             harness.check(outcome.written == prefix, || format!("  no prefix: {iteration} sweeps"));
@@ -179,14 +182,15 @@ fn sums_in_range(problem: &Problem, terms: impl Iterator<Item = i64>) -> bool {
     in_word(problem, largest - least)
 }
 
+/// A row of h has the products of the state, then those of the target; a running sum may reach from one to the other.
 fn linear_in_range(problem: &Problem, rounded: &Rounded, inputs: &[i64]) -> bool {
-    problem.gains.iter().all(|row| sums_in_range(problem, rounded.terms(row, inputs)))
+    problem.gains.rows().all(|row| sums_in_range(problem, rounded.terms(row, inputs)))
 }
 
 /// The products of a sweep about to be made.
 fn products_in_range(problem: &Problem, rounded: &Rounded) -> bool {
     let old = |&z: &i64| in_word(problem, rounded.product(problem.momentum, z));
-    problem.descent.iter().all(|row| sums_in_range(problem, rounded.terms(row, &rounded.y)))
+    problem.descent.rows().all(|row| sums_in_range(problem, rounded.terms(row, &rounded.y)))
         && rounded.z.iter().all(old)
 }
 
@@ -266,6 +270,8 @@ fn itself(harness: &mut Harness, _: u64, random: &mut Random) {
     big_agrees(harness, random);
     conversions_agree(harness, random);
     sample_agrees(harness);
+    targets_agree(harness);
+    former_agrees(harness, random);
     let problem = cases::sample().problem();
     let holds =
         sums_in_range(&problem, [100, 27, -127].into_iter()) && !sums_in_range(&problem, [-100, 100, 28].into_iter());
@@ -314,8 +320,10 @@ fn conversions_agree(harness: &mut Harness, random: &mut Random) {
 fn sample_agrees(harness: &mut Harness) {
     let sample = cases::sample();
     harness.check(sample.sheet() == cases::SAMPLE.as_bytes(), || "  S is not document 01's".to_string());
-    let label = label::expected(cases::SAMPLE.as_bytes(), b"0000000A\n").1;
-    harness.check(label == "FFFFFFEE 00000003\n", || format!("  S prints {label:?}"));
+    for (folder, expected) in label_table() {
+        let label = label::expected(&folder).1;
+        harness.check(label == expected, || format!("  not {expected:?}, but {label:?} is printed"));
+    }
     let problem = sample.problem();
     let mut exact = Exact::new(&problem, &[10], &[0]);
     (0..3).for_each(|_| exact.step());
@@ -323,4 +331,42 @@ fn sample_agrees(harness: &mut Harness) {
     harness.check(holds, || "  S does not reach -17.5".to_string());
     let holds = exact.is_near(0, -18, 1) && !exact.is_near(0, -18, 0) && !exact.is_near(0, -19, 1);
     harness.check(holds, || "  the bound's test does not tell near from far".to_string());
+}
+
+/// S with a target: its text, and −11.375 after three exact sweeps (see the case). And the longest sheet and image.
+fn targets_agree(harness: &mut Harness) {
+    let draft = cases::with_target();
+    harness.check(draft.sheet() == cases::with_target_text(), || "  S with a target has another text".to_string());
+    let problem = draft.problem();
+    let mut exact = Exact::new(&problem, &[10, 7], &[0]);
+    (0..3).for_each(|_| exact.step());
+    let holds = exact.commands[0].times(8) == exact.scale.times(-91);
+    harness.check(holds, || "  S with a target does not reach -11.375".to_string());
+    let sizes = Sizes { motors: 4, steps: 4, states: 12, targets: 4, ..draft.sizes };
+    let longest = Draft::new(sizes);
+    let lengths = (longest.sheet().len(), longest.image().len());
+    // 538 lines of 23 bytes; 8 words and one for each line but the first.
+    let holds = lengths == (12374, 2180) && lengths.0 == MOST_LINES * LINE;
+    harness.check(holds, || format!("  the longest sheet and image have {lengths:?} bytes"));
+}
+
+/// With nr 0 every old sheet gives its old answer.
+fn former_agrees(harness: &mut Harness, random: &mut Random) {
+    for _ in 0..400 {
+        let case = generate::solve_case(random, &Plan::nothing());
+        if case.draft.sizes.targets > 0 {
+            continue;
+        }
+        let former = Former::new(case.draft.words());
+        let lengths = (case.draft.sheet().len(), case.image.len());
+        let answer = former.answer(&words(&case.state), &words(&case.start));
+        let lent: [&[u8]; 4] = [&case.image, &case.state, &[], &case.start];
+        let found = solve_call(lent, 4 * answer.len(), Rules::default());
+        let holds = lengths == (former.sheet_len(), former.image_len()) && found == Ok(bytes(&answer));
+        harness.check(holds, || format!("  the former answer of {:?} is {answer:?}", case.draft));
+        let beyond = generate::solve_case(random, &Plan::only(12)).draft;
+        let holds = beyond.sizes.targets > 0
+            || beyond.problem().leaves_headroom() == Former::new(beyond.words()).leaves_headroom();
+        harness.check(holds, || format!("  12 is not the former one for {beyond:?}"));
+    }
 }
