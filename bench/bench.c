@@ -9,9 +9,10 @@
 #include "gantry.h"
 
 struct problem {
-    int nu, n, nx, b, sweeps;
+    int nu, n, nx, nr, b, sweeps;
     uint8_t image[GANTRY_MAX_IMAGE_BYTES];
     uint8_t state[GANTRY_STATE_BYTES(GANTRY_MAX_STATES)];
+    uint8_t target[GANTRY_TARGET_BYTES(GANTRY_MAX_TARGETS)];
     uint8_t start[GANTRY_START_BYTES(GANTRY_MAX_COMMANDS)];
     size_t image_len;
 };
@@ -40,7 +41,7 @@ struct tables {
 
 static int accepted(const struct problem *p, const struct tables *t)
 {
-    int n = p->n, limits = 8 + n * n + n * p->nx;
+    int n = p->n, limits = 8 + n * n + n * p->nx, targets = limits + 2 * p->nu + 1 + p->nx;
     int64_t f = 1ll << p->b, least = INT64_MAX, largest = 0, top = INT32_MAX;
     for (int i = 0; i < n; i++) {
         int64_t others = 0, diagonal = word(p, 8 + i * n + i);
@@ -60,6 +61,8 @@ static int accepted(const struct problem *p, const struct tables *t)
             sum += up(magnitude(t->m[i][j]) * t->y[j], p->b);
         for (int j = 0; j < p->nx; j++)
             sum += up(magnitude(word(p, 8 + n * n + i * p->nx + j)) * word(p, limits + 2 * p->nu + 1 + j), p->b);
+        for (int j = 0; j < p->nr; j++)
+            sum += up(magnitude(word(p, targets + i * p->nr + j)) * word(p, targets + n * p->nr + j), p->b);
         if (sum > top || t->y[i] > top)
             return 0;
     }
@@ -68,7 +71,7 @@ static int accepted(const struct problem *p, const struct tables *t)
 
 static void load(const struct problem *p, struct tables *t)
 {
-    int n = p->n, limits = 8 + n * n + n * p->nx;
+    int n = p->n, limits = 8 + n * n + n * p->nx, targets = limits + 2 * p->nu + 1 + p->nx;
     t->beta = word(p, limits + 2 * p->nu);
     for (int i = 0; i < n; i++) {
         t->low[i] = word(p, limits + i % p->nu);
@@ -78,6 +81,8 @@ static void load(const struct problem *p, struct tables *t)
         t->h[i] = 0;
         for (int j = 0; j < p->nx; j++)
             t->h[i] += (word(p, 8 + n * n + i * p->nx + j) * get(p->state + 4 * j)) >> p->b;
+        for (int j = 0; j < p->nr; j++)
+            t->h[i] += (word(p, targets + i * p->nr + j) * get(p->target + 4 * j)) >> p->b;
         for (int j = 0; j < n; j++)
             t->m[i][j] = (i == j ? 1ll << p->b : 0) - word(p, 8 + i * n + j);
     }
@@ -87,7 +92,7 @@ static void twin(const struct problem *p, uint8_t *answer)
 {
     struct tables t;
     int64_t z[16], y[16], e[16] = {0}, q[16] = {0}, next[16], bound[16];
-    int n = p->n, b = p->b, c = n > p->nx ? n : p->nx;
+    int n = p->n, b = p->b, c = n > p->nx + p->nr ? n : p->nx + p->nr;
     load(p, &t);
     if (!accepted(p, &t))
         return;
@@ -126,14 +131,14 @@ static int64_t random_word(int64_t most)
     return (int64_t)(seed >> 8) % (2 * most + 1) - most;
 }
 
-static void make(struct problem *p, int nu, int steps, int nx, int b, int sweeps)
+static void make(struct problem *p, int nu, int steps, int nx, int nr, int b, int sweeps)
 {
     int n = nu * steps, at = 8 + n * n;
     int64_t f = 1ll << b;
     memset(p, 0, sizeof *p);
-    p->nu = nu, p->n = n, p->nx = nx, p->b = b, p->sweeps = sweeps;
-    p->image_len = GANTRY_IMAGE_BYTES(nu, n, nx);
-    int head[8] = {nu, steps, nx, b, 32, sweeps, 0, 0};
+    p->nu = nu, p->n = n, p->nx = nx, p->nr = nr, p->b = b, p->sweeps = sweeps;
+    p->image_len = GANTRY_IMAGE_BYTES(nu, n, nx, nr);
+    int head[8] = {nu, steps, nx, b, 32, sweeps, nr, 0};
     for (int i = 0; i < 8; i++)
         put(p->image + 4 * i, head[i]);
     for (int i = 0; i < n; i++)
@@ -154,14 +159,21 @@ static void make(struct problem *p, int nu, int steps, int nx, int b, int sweeps
         put(p->image + 4 * (at + 2 * nu + 1 + i), 4 * f);
         put(p->state + 4 * i, random_word(4 * f));
     }
+    at += 2 * nu + 1 + nx;
+    for (int i = 0; i < n * nr; i++)
+        put(p->image + 4 * (at + i), random_word(f));
+    for (int i = 0; i < nr; i++) {
+        put(p->image + 4 * (at + n * nr + i), 4 * f);
+        put(p->target + 4 * i, random_word(4 * f));
+    }
     for (int i = 0; i < n; i++)
         put(p->start + 4 * i, random_word(20 * f));
 }
 
 static uint32_t library(const struct problem *p, uint8_t *answer)
 {
-    return gantry_solve(p->image, p->image_len, p->state, GANTRY_STATE_BYTES(p->nx), p->start, GANTRY_START_BYTES(p->n),
-                        answer, GANTRY_ANSWER_BYTES(p->n));
+    return gantry_solve(p->image, p->image_len, p->state, GANTRY_STATE_BYTES(p->nx), p->target, GANTRY_TARGET_BYTES(p->nr),
+                        p->start, GANTRY_START_BYTES(p->n), answer, GANTRY_ANSWER_BYTES(p->n));
 }
 
 static double now(void)
@@ -203,13 +215,13 @@ static int compare(const char *name, const struct problem *p, int calls)
 int main(int argc, char **argv)
 {
     static struct problem large, small;
-    make(&large, 4, 4, 12, 20, 400);
-    make(&small, 2, 1, 4, 16, 20);
+    make(&large, 4, 4, 12, 4, 20, 400);
+    make(&small, 2, 1, 4, 0, 16, 20);
     if (argc == 3) {
         uint8_t answer[GANTRY_ANSWER_BYTES(GANTRY_MAX_COMMANDS)];
         for (int k = atoi(argv[2]); k > 0; k--)
             argv[1][0] == 't' ? twin(&large, answer) : (void)library(&large, answer);
         return 0;
     }
-    return compare("n 16, nx 12, b 20, 400 sweeps", &large, 5) | compare("n 2, nx 4, b 16, 20 sweeps", &small, 500);
+    return compare("n 16, nx 12, nr 4, b 20, 400 sweeps", &large, 5) | compare("n 2, nx 4, nr 0, b 16, 20 sweeps", &small, 500);
 }

@@ -5,7 +5,7 @@
 
 #include "gantry.h"
 
-/* Document 01's sample: one motor, one step, one state value, b 4, W 8, three sweeps. */
+/* Document 01's sample: one motor, one step, one state value, no target, b 4, W 8, three sweeps. */
 static const char sheet[] =
     "0101010104080000030000\n"
     "0200003FE0000000000000\n"
@@ -15,9 +15,9 @@ static const char sheet[] =
     "0600000000000000000000\n"
     "0700003FE4000000000000\n";
 
-enum { NU = 1, COMMANDS = 1, STATES = 1, PERIODS = 4 };
+enum { NU = 1, COMMANDS = 1, STATES = 1, TARGETS = 0, PERIODS = 4 };
 
-static uint8_t image[GANTRY_IMAGE_BYTES(NU, COMMANDS, STATES)];
+static uint8_t image[GANTRY_IMAGE_BYTES(NU, COMMANDS, STATES, TARGETS)];
 static uint8_t start[GANTRY_START_BYTES(COMMANDS)];
 static uint8_t answer[GANTRY_ANSWER_BYTES(COMMANDS)];
 
@@ -38,7 +38,9 @@ static uint32_t period(int32_t encoder)
 {
     uint8_t state[GANTRY_STATE_BYTES(STATES)];
     put_word(state, encoder);
-    uint32_t number = gantry_solve(image, sizeof image, state, sizeof state, start, sizeof start, answer, sizeof answer);
+    /* With nr 0 the target is empty: any pointer but null, and length 0. */
+    uint32_t number = gantry_solve(image, sizeof image, state, sizeof state, state, GANTRY_TARGET_BYTES(TARGETS),
+                                   start, sizeof start, answer, sizeof answer);
     if (number == GANTRY_ACCEPTED)
         memcpy(start, answer, sizeof start);
     return number;

@@ -19,25 +19,29 @@
 extern "C" {
 #endif
 
-/* The sizes of the buffers. nu motors, N steps, n = nu * N commands, nx state values. */
+/* The sizes of the buffers. nu motors, N steps, n = nu * N commands, nx state values, nr target values (0 for a drive that
+ * follows no target). */
 #define GANTRY_MAX_COMMANDS 16
 #define GANTRY_MAX_STATES 12
-#define GANTRY_IMAGE_WORDS(nu, n, nx) (8 + (n) * (n) + (n) * (nx) + 2 * (nu) + 1 + (nx))
-#define GANTRY_IMAGE_BYTES(nu, n, nx) (4 * (size_t)GANTRY_IMAGE_WORDS(nu, n, nx))
+#define GANTRY_MAX_TARGETS 4
+#define GANTRY_IMAGE_WORDS(nu, n, nx, nr) \
+    (8 + (n) * (n) + (n) * (nx) + 2 * (nu) + 1 + (nx) + (n) * (nr) + (nr))
+#define GANTRY_IMAGE_BYTES(nu, n, nx, nr) (4 * (size_t)GANTRY_IMAGE_WORDS(nu, n, nx, nr))
 #define GANTRY_STATE_BYTES(nx) (4 * (size_t)(nx))
+#define GANTRY_TARGET_BYTES(nr) (4 * (size_t)(nr))
 #define GANTRY_START_BYTES(n) (4 * (size_t)(n))
 #define GANTRY_ANSWER_BYTES(n) (8 * (size_t)(n))
-/* Large enough for every image: nu 4, n 16, nx 12. */
-#define GANTRY_MAX_IMAGE_BYTES GANTRY_IMAGE_BYTES(4, GANTRY_MAX_COMMANDS, GANTRY_MAX_STATES)
+/* Large enough for every image: nu 4, n 16, nx 12, nr 4. */
+#define GANTRY_MAX_IMAGE_BYTES GANTRY_IMAGE_BYTES(4, GANTRY_MAX_COMMANDS, GANTRY_MAX_STATES, GANTRY_MAX_TARGETS)
 
 /* The numbers. */
 enum gantry_number {
     GANTRY_ACCEPTED = 0,
     GANTRY_BAD_LINE = 1,       /* sheet: a line is not 22 digits 0-9 A-F and byte 10 */
     GANTRY_WRONG_LINE = 2,     /* sheet: not the kind, row and column due here, or a zero byte of line 01 is not 0 */
-    GANTRY_BAD_SIZE = 3,       /* a size out of its range, or image word 6 or 7 not 0 */
+    GANTRY_BAD_SIZE = 3,       /* a size out of its range, nr among them, or image word 7 not 0 */
     GANTRY_BAD_END = 4,        /* sheet: a line missing, or a byte after the last line due */
-    GANTRY_BAD_VALUE = 5,      /* NaN, infinity, a value outside the word, or a negative state limit */
+    GANTRY_BAD_VALUE = 5,      /* NaN, infinity, a value outside the word, or a negative limit of state or target */
     GANTRY_BAD_LENGTH = 6,     /* image: fewer than 32 bytes, or not the length that its sizes give */
     GANTRY_LIMITS_CROSSED = 7, /* a low limit above its high limit */
     GANTRY_NOT_SYMMETRIC = 8,  /* the cost table is not symmetric */
@@ -47,7 +51,8 @@ enum gantry_number {
     GANTRY_NO_HEADROOM = 12,   /* an intermediate value could leave the word */
     GANTRY_BAD_STATE = 13,     /* not nx words, or a value beyond its limit */
     GANTRY_BAD_START = 14,     /* not n words, or a command outside its limits */
-    GANTRY_BAD_BUFFER = 15     /* the buffer to be written has another length than the answer */
+    GANTRY_BAD_BUFFER = 15,    /* the buffer to be written has another length than the answer */
+    GANTRY_BAD_TARGET = 16     /* not nr words, or a value beyond its limit; tested directly after 13 */
 };
 
 /* Reads a design sheet and writes its image. image_len must be the image's exact length (15), which is known from the
@@ -60,12 +65,13 @@ uint32_t gantry_intake(const uint8_t *sheet, size_t sheet_len, uint8_t *image, s
 uint32_t gantry_cold_start(const uint8_t *image, size_t image_len, uint8_t *start, size_t start_len);
 
 /* Runs the image's sweeps from a start and writes 8n bytes: n commands as signed big-endian 32-bit words, then n error
- * bounds as unsigned ones, both in counts of 2^-b. State and start are signed big-endian 32-bit words.
- * Numbers: 0, 3, 5 to 15.
+ * bounds as unsigned ones, both in counts of 2^-b. State, target and start are signed big-endian 32-bit words; with nr 0
+ * the target is empty. Numbers: 0, 3, 5 to 16, tested 6, 3, 6, 5, 7 to 13, 16, 14, 15.
  * With 0, each command lies within its limits, and differs from the command of the exact scheme, which rounds nothing, by
  * at most its bound. A command is again a valid start. */
 uint32_t gantry_solve(const uint8_t *image, size_t image_len, const uint8_t *state, size_t state_len,
-                      const uint8_t *start, size_t start_len, uint8_t *answer, size_t answer_len);
+                      const uint8_t *target, size_t target_len, const uint8_t *start, size_t start_len,
+                      uint8_t *answer, size_t answer_len);
 
 #ifdef __cplusplus
 }
