@@ -1,14 +1,13 @@
 -- Checks 13, 16 and 14 by index, as a loop goes through them. Assumes nothing.
-use mathlib.Core.Path.{_≡_, ap}
+use mathlib.Core.Path.{_≡_}
 use mathlib.Core.Bool.{Bool, _&&_}
 use mathlib.Core.List.{List}
-use Prim.Native.Nat.{ℕ, _+_, _*_}
-use native.Mathlib.Omega.{arith}
+use Prim.Native.Nat.{ℕ, _*_}
 use lib.Dec.{leb}
 use lib.IntN.{ℤ, pos, natAbs}
 use lib.Signed.{leZ}
 use Rattle.word.specs.Word.{wordAt, wordsAt}
-use Rattle.word.proofs.Words.{length-words-at, getD-words-at}
+use Rattle.word.proofs.Words.{length-words-at, getD-words-front}
 use Rattle.gradient.specs.Problem.{Command}
 use Rattle.gradient.specs.Demand.{startWithin}
 use Rattle.gradient.specs.Index.{allTo}
@@ -30,20 +29,15 @@ values-to v z s values =
     let n = inputCount v z in
     every2-to (λ (x : ℤ) (b : ℕ). leb (natAbs x) b) (wordsAt values 0 n) (boundsOf v z s) (pos 0) 0 n
     (length-words-at values 0 n) (bounds-count z s v) (valueTest v z s values)
-    (λ j l. rw (getD-words-at values 0 n j l, input-bound-at z s v j l) (ap (λ (k : ℕ). leb (natAbs (wordAt values k)) (natAbs (boundAt v z s j))) (omega arith)))
+    (λ j l. rw (getD-words-front values n j l, input-bound-at z s v j l))
 
 -- ---- 14: a command of the start, and its limits
 abbrev pub startTest : Sizes → List ℕ → List ℕ → ℕ → Bool
 startTest z s start k = leZ (lowerAt z s k) (wordAt start (4 * k)) && leZ (wordAt start (4 * k)) (upperAt z s k)
 
-limits : (z : Sizes) (s start : List ℕ) (k : ℕ)
-    → leZ (commandAt z s k .lower) (wordAt start (0 + 4 * k)) && leZ (wordAt start (0 + 4 * k)) (commandAt z s k .upper) ≡ startTest z s start k
-unfolding commandAt
-limits z s start k = ap (λ (i : ℕ). leZ (lowerAt z s k) (wordAt start i) && leZ (wordAt start i) (upperAt z s k)) (omega arith)
-
 pub start-to : (z : Sizes) (s start : List ℕ) → startWithin (problemAt z s) (startOf z start) ≡ allTo (startTest z s start) (commandCount z)
-unfolding startWithin startOf
+unfolding startWithin startOf commandAt
 start-to z s start =
     every2-to (λ (r : Command) (x : ℤ). leZ (r .lower) x && leZ x (r .upper)) (problemAt z s .commands) (wordsAt start 0 (commandCount z)) (commandAt z s 0) (pos 0) (commandCount z)
     (commands-length z s) (length-words-at start 0 (commandCount z)) (startTest z s start)
-    (λ k l. rw (command-at z s (commandAt z s 0) k l, getD-words-at start 0 (commandCount z) k l) (limits z s start k))
+    (λ k l. rw (command-at z s (commandAt z s 0) k l, getD-words-front start (commandCount z) k l))

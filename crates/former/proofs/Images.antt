@@ -1,6 +1,6 @@
 -- With word 6 zero and an empty target, a cold start and a solve have the number and the answer that they had. Assumes nothing.
 use mathlib.Core.Path.{_≡_, refl, ap, _∙_}
-use mathlib.Core.Bool.{Bool, true, false, cond, _&&_}
+use mathlib.Core.Bool.{Bool, true, false, cond, _&&_, and-true}
 use mathlib.Core.List.{List, [], _++_, append-nil, map}
 use Prim.Native.Nat.{ℕ, _+_, _*_}
 use native.Mathlib.Omega.{arith}
@@ -23,10 +23,6 @@ use Rattle.interface.specs.Tables.{pointTest, rowTest, tablesNumber, imageNumbe
 use Rattle.interface.specs.Calls.{valuesOf, inputsOf, startOf, valuesWithin, coldNumber, coldAnswer, callNumber, solveNumber, commandsAfter, boundsAfter, solveAnswer}
 use Rattle.former.specs.Former as former
 use Rattle.former.specs.Unchanged.{SameColdStart, SameSolve}
-
-and-true : (b : Bool) → b && true ≡ b
-and-true true = refl
-and-true false = refl
 
 -- ---- sizes with nr 0
 module _ (z : Sizes) (none : z .nr ≡ 0) where

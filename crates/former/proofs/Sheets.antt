@@ -1,9 +1,9 @@
 -- A sheet whose line 01 has 0 as its fourth value byte has the number and the image that it had, and so has every sheet that had another
 -- number than 2. Assumes nothing.
 use mathlib.Core.Path.{_≡_, refl, sym, ap, subst, _∙_}
-use mathlib.Core.Bool.{Bool, true, false, cond, _&&_, _||_, and-false}
+use mathlib.Core.Bool.{Bool, true, false, cond, _&&_, and-false, or-false}
 use mathlib.Core.List.{List, [], _∷_, _++_}
-use Prim.Native.Nat.{ℕ, zero, suc, _+_, _-_, _*_, _/_, _%_, _≤_}
+use Prim.Native.Nat.{ℕ, _+_, _-_, _*_, _/_, _%_, _≤_}
 use native.Mathlib.Omega.{arith}
 use lib.Dec.{eqb, leb, ltb}
 use lib.IntN.{ℤ, pos}
@@ -17,7 +17,6 @@ use Rattle.double.specs.Double.{convertedNumber}
 use Rattle.gradient.specs.Index.{tab}
 use Rattle.gradient.proofs.Index.{tab-cong}
 use Rattle.image.specs.declared.Sizes.{Sizes}
-use Rattle.image.specs.Order.{orElse}
 use Rattle.image.specs.Sizes.{commandCount, sound}
 use Rattle.image.specs.Layout.{sizesOf}
 use Rattle.line.specs.Line.{lineAt, isFrame, frameAt}
@@ -30,9 +29,10 @@ use Rattle.frame.specs.declared.Value.{Value}
 use Rattle.frame.specs.declared.Value.the-variants.{Double, Fault}
 use Rattle.frame.specs.Frame.{Table, table, dueIn, due, headOf, tables, total, dueAt, wordOf, convertedWord, valueNumber, valueDouble}
 use Rattle.lines.specs.Lines.{lineValue, lineFault, lineWord, sizeWords}
-use Rattle.sheet.specs.Sheet.{first, linesNumber, linesWords, headNumber, headWords, sheetNumber, sheetWords, sheetImage}
+use Rattle.sheet.specs.Sheet.{linesNumber, linesWords, headNumber, headWords, sheetNumber, sheetWords, sheetImage}
 use Rattle.sheet.proofs.Answer.{passing}
 use Rattle.sheet.proofs.Image.{image-sizes}
+use Rattle.sheet.proofs.Reach.{first-cong}
 use Rattle.intake.specs.Intake.{intakeNumber, ownTables}
 use Rattle.former.specs.Former as former
 use Rattle.former.specs.Unchanged.{targetByte, SameIntake}
@@ -68,14 +68,6 @@ kind-most (t ∷ ts) h i = by (ltb i (t .rows * t .columns)) (kind-most ts (h .1
         → cond b (due (t .kind) (i / t .columns) (i % t .columns)) (dueIn ts (i - t .rows * t .columns)) .kind ≤ 7
     by true k = h .0
     by false k = k
-
-or-false : (b : Bool) → b || false ≡ b
-or-false true = refl
-or-false false = refl
-
-first-cong : (f g : ℕ → ℕ) (n e : ℕ) → ((i : ℕ) → f i ≡ g i) → first f n e ≡ first g n e
-first-cong f g zero e h = refl
-first-cong f g (suc n) e h = rw (h n) (first-cong f g n (orElse (g n) e) h)
 
 -- ---- with nr 0
 module _ (z : Sizes) (none : z .nr ≡ 0) where
@@ -117,7 +109,7 @@ module _ (z : Sizes) (none : z .nr ≡ 0) where
         (ap convertedWord (word-same (former.dueAt z i .kind) (due-most i) (valueDouble (former.lineValue z s i))))
 
     lines-same : linesNumber z s ≡ former.linesNumber z s
-    lines-same = rw total-same (first-cong (lineFault z s) (former.lineFault z s) (former.total z) (former.endNumber z s) fault-same)
+    lines-same = rw total-same (first-cong (lineFault z s) (former.lineFault z s) (former.total z) (former.endNumber z s) (former.endNumber z s) (λ k h. fault-same k) refl)
 
     words-same : linesWords z s ≡ former.linesWords z s
     words-same =

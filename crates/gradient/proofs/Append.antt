@@ -1,6 +1,6 @@
 -- Two lists one after the other, as the inputs are the state and then the target: what a sum or a test over both is. Assumes nothing.
 use mathlib.Core.Path.{_≡_, refl, sym, ap, _∙_}
-use mathlib.Core.Bool.{Bool, true, false, _&&_}
+use mathlib.Core.Bool.{Bool, _&&_, and-assoc}
 use mathlib.Core.List.{List, [], _∷_, _++_}
 use Prim.Native.Nat.{ℕ, _+_}
 use native.Mathlib.Omega.{arith}
@@ -31,11 +31,7 @@ module _ {A B : Type 0} where
   every2-append f [] us (y ∷ ys) vs e = let z : ⊥ = omega arith in absurd z
   every2-append f (x ∷ xs) us [] vs e = let z : ⊥ = omega arith in absurd z
   every2-append f (x ∷ xs) us (y ∷ ys) vs e =
-      ap (λ (b : Bool). f x y && b) (every2-append f xs us ys vs (omega arith)) ∙ assoc (f x y) (every2 f xs ys) (every2 f us vs)
-    where
-      assoc : (a b c : Bool) → a && (b && c) ≡ a && b && c
-      assoc true b c = refl
-      assoc false b c = refl
+      ap (λ (b : Bool). f x y && b) (every2-append f xs us ys vs (omega arith)) ∙ sym (and-assoc (f x y) (every2 f xs ys) (every2 f us vs))
 
 -- ---- sums
 total-append : (l m : List ℤ) → total (l ++ m) ≡ total l +ℤ total m

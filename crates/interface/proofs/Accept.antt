@@ -3,7 +3,6 @@ use mathlib.Core.Path.{_≡_, refl, sym, ap, subst, _∙_}
 use mathlib.Core.Bool.{Bool, true, false, cond}
 use mathlib.Core.List.{List}
 use Prim.Native.Nat.{ℕ, _+_, _-_, _*_, _^_, _≤_, _<_}
-use native.Mathlib.Nat.{zero-add}
 use native.Mathlib.Omega.{arith}
 use lib.Dec.{eqb, leb, lit<}
 use lib.IntN.{ℤ, pos, negsuc, natAbs, _-ℤ_}
@@ -13,9 +12,9 @@ use lib.Signed.{leZ, leZ-yes, _≤ℤ_}
 use borrow.Author.Tests.{leb-true, eqb-true}
 use Rattle.integer.specs.Parts.{int, nat, _⊖_}
 use Rattle.integer.proofs.Parts.{abs!, abs?, le?, whole}
-use Rattle.word.specs.Word.{natAt, wordAt, wordsAt}
+use Rattle.word.specs.Word.{natAt, wordsAt}
 use Rattle.word.specs.Format.{top}
-use Rattle.word.proofs.Words.{getD-words-at, length-words-at}
+use Rattle.word.proofs.Words.{getD-words-at, getD-words-front, length-words-at}
 use Rattle.gradient.specs.Vector.{All1}
 use Rattle.gradient.specs.Index.{allTo}
 use Rattle.gradient.specs.Problem.{Command, F}
@@ -117,7 +116,7 @@ module _ (z : Sizes) (s : List ℕ) where
   gains-count v i = length-words-at (gainRow v z s i) 0 (inputCount v z)
 
   pub gain-at : (v : Input) (i j : ℕ) → j < inputCount v z → getD (gainsOf v z s i) j (pos 0) ≡ gainAt v z s i j
-  gain-at v i j h = getD-words-at (gainRow v z s i) 0 (inputCount v z) j h ∙ ap (wordAt (gainRow v z s i)) (zero-add (4 * j))
+  gain-at v i j h = getD-words-front (gainRow v z s i) (inputCount v z) j h
 
   pub bounds-length : length (problemAt z s .inputBounds) ≡ z .nx + z .nr
   unfolding problemAt

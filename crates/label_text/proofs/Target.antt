@@ -16,14 +16,14 @@ use Rattle.intake.proofs.Laws.{accepted-sheet}
 use Rattle.word_file.specs.WordFile.{fileWords}
 use Rattle.text.specs.Text.{refusal}
 use Rattle.label_files.specs.Files.{formNumber, targetForm}
-use Rattle.label_text.specs.Label.{filesNumber, headCount, imageText, labelText, targetCount}
+use Rattle.label_text.specs.Label.{filesNumber, headTargets, imageText, labelText, targetCount}
 
 -- nr of an image is that of line 01
 image-count : (drive : List ℕ) → sheetNumber drive ≡ 0 → sizesOf (intakeImage drive) .nr ≡ targetCount drive
 unfolding targetCount
 image-count drive e =
     let p = passing drive e in
-    ap (λ (z : Sizes). z .nr) (image-sizes drive p) ∙ sym (ap headCount (p .head))
+    ap (λ (z : Sizes). z .nr) (image-sizes drive p) ∙ sym (ap headTargets (p .head))
 
 pub untargeted : (image state target other : List ℕ) → sizesOf image .nr ≡ 0 → imageText image state target ≡ imageText image state other
 unfolding imageText filesNumber formNumber targetForm fileWords

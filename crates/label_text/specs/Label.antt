@@ -20,12 +20,12 @@ use Rattle.label_text.specs.declared.Drive.{Drive}
 -- ---- how many target values
 
 -- the nr of line 01; 0 where it gives no sizes
-abbrev pub headCount : Head → ℕ
-headCount (Sized z) = z .nr
-headCount (Unsized n) = 0
+abbrev pub headTargets : Head → ℕ
+headTargets (Sized z) = z .nr
+headTargets (Unsized n) = 0
 
 unfoldable pub targetCount : List ℕ → ℕ
-targetCount drive = headCount (headOf (lineAt drive 0))
+targetCount drive = headTargets (headOf (lineAt drive 0))
 
 -- ---- what is printed
 

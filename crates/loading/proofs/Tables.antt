@@ -1,13 +1,12 @@
 -- The arrays that are made of an image are those of its problem. Assumes nothing.
-use mathlib.Core.Path.{_≡_, sym, ap, subst, _∙_}
+use mathlib.Core.Path.{_≡_, sym, subst, _∙_}
 use mathlib.Core.List.{List, []}
 use Prim.Native.Nat.{ℕ, _*_, _-_, _^_, _<_}
-use native.Mathlib.Nat.{zero-add}
 use native.Mathlib.Omega.{arith}
 use lib.ListN.{length, getD}
 use lib.IntN.{ℤ, pos, _+ℤ_}
 use Rattle.word.specs.Word.{wordAt, wordsAt}
-use Rattle.word.proofs.Words.{length-words-at, getD-words-at}
+use Rattle.word.proofs.Words.{length-words-at, getD-words-front}
 use Rattle.gradient.specs.Index.{sumZ}
 use Rattle.gradient.specs.Problem.{Command, Problem, F}
 use Rattle.gradient.specs.Vector.{total}
@@ -35,9 +34,7 @@ part-is : (v : Input) (z : Sizes) (image values : List ℕ) (x : List ℤ) (i : 
 unfolding inputTerm valuesOf
 part-is v z image values x i h =
     let n = inputCount v z in
-    sumZ-cong _ _ 0 n (λ j l u. let k : j < n = omega arith in
-    let s : getD (wordsAt values 0 n) j (pos 0) ≡ wordAt values (4 * j) = getD-words-at values 0 n j k ∙ ap (wordAt values) (zero-add (4 * j)) in
-    rw (gain-at z image v i j k, s, h .each j k))
+    sumZ-cong _ _ 0 n (λ j l u. let k : j < n = omega arith in rw (gain-at z image v i j k, getD-words-front values n j k, h .each j k))
     ∙ sym (terms-sum (2 ^ z .b) (gainsOf v z image i) (wordsAt values 0 n) n (gains-count z image v i) (length-words-at values 0 n))
 
 -- of the state's and of the target's

@@ -22,7 +22,7 @@ use Rattle.lines.specs.Lines.{lineFault, lineValue, lineWord, sizeWords}
 use Rattle.sheet.specs.Laws.{reach, reachOf}
 use Rattle.sheet.specs.Sheet.{endNumber, first, headNumber, headWords, linesNumber, linesWords, sheetImage, sheetNumber, sheetWords}
 
-first-cong : (f g : ℕ → ℕ) (n e d : ℕ) → ((k : ℕ) → k < n → f k ≡ g k) → e ≡ d → first f n e ≡ first g n d
+pub first-cong : (f g : ℕ → ℕ) (n e d : ℕ) → ((k : ℕ) → k < n → f k ≡ g k) → e ≡ d → first f n e ≡ first g n d
 first-cong f g zero e d h q = q
 first-cong f g (suc n) e d h q =
     first-cong f g n (orElse (f n) e) (orElse (g n) d) (λ k l. h k (omega arith)) (rw (h n (omega arith), q))

@@ -2,14 +2,14 @@
 use mathlib.Core.Path.{_≡_, sym, ap, _∙_}
 use mathlib.Core.List.{List, [], map}
 use Prim.Native.Nat.{ℕ, suc, _*_, _≤_, _<_}
-use native.Mathlib.Nat.{zero-add, le-trans}
+use native.Mathlib.Nat.{le-trans}
 use native.Mathlib.Omega.{arith}
 use lib.Dec.{T}
 use lib.ListN.{length, getD}
 use lib.IntN.{ℤ, pos, _-ℤ_}
 use Rattle.integer.specs.Round.{clamp}
 use Rattle.word.specs.Word.{wordAt, wordsAt}
-use Rattle.word.proofs.Words.{getD-words-at}
+use Rattle.word.proofs.Words.{getD-words-front}
 use Rattle.word.specs.Format.{top}
 use Rattle.gradient.specs.Problem.{Command, Problem, F}
 use Rattle.gradient.specs.Scheme.{Iterate, linear, nextZ, nextY, iterate}
@@ -171,7 +171,7 @@ first-reached image state target start s f =
     let n = count-is image in
     let z = sizesOf image in
     let word : (i : ℕ) → i < length (problemOf image .commands) → wordAt start (4 * i) ≡ getD (wordsAt start 0 (commandCount z)) i (pos 0) =
-    λ i h. sym (getD-words-at start 0 (commandCount z) i (omega arith) ∙ ap (wordAt start) (zero-add (4 * i))) in
+    λ i h. sym (getD-words-front start (commandCount z) i (omega arith)) in
     let none : (i : ℕ) → i < length (problemOf image .commands) → _≡_ {A = ℕ} 0 (getD (map (λ (r : Command). 0) (problemOf image .commands)) i 0) =
     λ i h. sym (map-at (λ (r : Command). 0) (problemOf image .commands) i nothing 0 h) in
     record {

@@ -3,7 +3,7 @@ use borrow.Author.Needs.{needs}
 use mathlib.Core.Path.{_≡_, sym, ap, _∙_}
 use Rattle.line.specs.Line.{lineAt}
 use Rattle.frame.specs.Frame.{headOf}
-use Rattle.label_text.specs.Label.{headCount, targetCount}
+use Rattle.label_text.specs.Label.{headTargets, targetCount}
 use Rattle.label_text.proofs.target_count.Statement.{statement}
 use Rattle.label_text.proofs.target_count.Tie as tie
 
@@ -24,11 +24,11 @@ enum-told c = search needs
 
 returns : tie.Need-returns
 unfolding targetCount
-returns c = sym (ap headCount (head-is (c .before .before .before) ∙ c .before .z .given .1))
+returns c = sym (ap headTargets (head-is (c .before .before .before) ∙ c .before .z .given .1))
 
 returns-2 : tie.Need-returns-2
 unfolding targetCount
-returns-2 c = sym (ap headCount (head-is (c .before .before) ∙ c .enum-told .given .1))
+returns-2 c = sym (ap headTargets (head-is (c .before .before) ∙ c .enum-told .given .1))
 
 pub target-count-spec : {M : Type 1} → statement M
 target-count-spec =
