@@ -1,5 +1,6 @@
 -- The definitions as they stood before request 1, "Following a target": those that differ, each with the name and the text that it had, and
--- those that are over them. All else is cited. The record `Sizes` has nr since; here nr is 0, and nothing reads it. Definitions only.
+-- those that are over them. All else is cited. The record `Sizes` has nr since; here nr is 0, and nothing reads it. Where Φ and the state
+-- limits were meant and the target's are meant today too, `State` stands. Definitions only.
 use Prim.Native.Nat.{ℕ, _+_, _*_, _/_, _%_}
 use mathlib.Core.Bool.{Bool, _&&_, cond}
 use mathlib.Core.List.{List, [], _∷_, _++_, map}
@@ -191,11 +192,14 @@ valueNumber z kind (Fault n) = n
 unfoldable pub lineValue : Sizes → List ℕ → ℕ → Value
 lineValue z s i = valueOf (dueAt z i) (lineAt s (23 * (i + 1)))
 
+abbrev pub lineDouble : Sizes → List ℕ → ℕ → Float
+lineDouble z s i = valueDouble (lineValue z s i)
+
 unfoldable pub lineFault : Sizes → List ℕ → ℕ → ℕ
 lineFault z s i = valueNumber z (dueAt z i .kind) (lineValue z s i)
 
 unfoldable pub lineWord : Sizes → List ℕ → ℕ → ℤ
-lineWord z s i = convertedWord (wordOf z (dueAt z i .kind) (valueDouble (lineValue z s i)))
+lineWord z s i = convertedWord (wordOf z (dueAt z i .kind) (lineDouble z s i))
 
 abbrev pub sizeWords : Sizes → List ℤ
 sizeWords z = pos (z .nu) ∷ pos (z .steps) ∷ pos (z .nx) ∷ pos (z .b) ∷ pos (z .w) ∷ pos (z .sweeps) ∷ pos 0 ∷ pos 0 ∷ []
@@ -210,7 +214,7 @@ linesNumber z s = first (lineFault z s) (total z) (endNumber z s)
 abbrev pub linesWords : Sizes → List ℕ → List ℤ
 linesWords z s = sizeWords z ++ tab (lineWord z s) (total z)
 
--- (these two had the names `headNumber` and `headWords` in sheet)
+-- (this one had the name `headNumber`, as image's has)
 abbrev pub afterHead : Head → List ℕ → ℕ
 afterHead (Sized z) s = linesNumber z s
 afterHead (Unsized n) s = n
