@@ -4,4 +4,5 @@ pub mod Value
 pub mod Scale
 pub mod Convert
 pub mod Back
+pub mod Same
 pub mod Pattern

@@ -116,6 +116,11 @@ unfolding hexes
 hexes-all zero s at h = refl
 hexes-all (suc k) s at h = rw (hexes-all k s at (λ i l. h i (omega arith)), h k (le-refl (suc k)))
 
+-- and so is every part of them
+pub hexes-part : (n : ℕ) (s : List ℕ) (at j k : ℕ) → hexes n s at ≡ true → j + k ≤ n → hexes k s (at + j) ≡ true
+hexes-part n s at j k h l =
+    hexes-all k s (at + j) (λ i m. subst (λ (p : ℕ). isHex (getD s p 0) ≡ true) (sym (add-assoc at j i)) (hexes-at n s at (j + i) h (omega arith)))
+
 -- one of them is none
 pub hexes-not : (k : ℕ) (s : List ℕ) (at i : ℕ) → i < k → isHex (getD s (at + i) 0) ≡ false → hexes k s at ≡ false
 hexes-not k s at i l h = by (hexes k s at) refl
