@@ -6,6 +6,7 @@ use Prim.Native.Nat.{ℕ, _*_}
 use lib.Dec.{eqb}
 use lib.ListN.{length}
 use borrow.Author.Tests.{eqb-true}
+use Rattle.word.specs.Buffer.{joined}
 use Rattle.word.specs.Word.{natAt}
 use Rattle.image.specs.declared.Sizes.{Sizes}
 use Rattle.image.specs.declared.Input.the-variants.{State}
@@ -49,7 +50,7 @@ module _ (image state target : List ℕ) (accepted : imageNumber image ≡ 0) (n
   beyond h = rw (accepted, sizes-same image none, h)
 
   files-same : filesNumber image state target ≡ former.stateNumber image state
-  unfolding filesNumber formNumber targetForm fileWords former.stateNumber former.sizesOf
+  unfolding filesNumber formNumber targetForm joined fileWords former.stateNumber former.sizesOf
   files-same = rw (sizes-same image none) (by (isWordFile (z .nx) state) (inputPasses State z image words) refl)
     where
       by : (a b : Bool) → inputPasses State z image words ≡ b
@@ -59,7 +60,7 @@ module _ (image state target : List ℕ) (accepted : imageNumber image ≡ 0) (n
       by true false e = sym (beyond e) ∙ number-same
 
   text-same : imageText image state target ≡ former.imageText image state
-  unfolding imageText fileWords former.imageText former.sizesOf
+  unfolding imageText joined fileWords former.imageText former.sizesOf
   text-same = rw (files-same, sizes-same image none, answer-same)
 
 -- ---- the law, for a buffer of the image's own length

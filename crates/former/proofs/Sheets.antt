@@ -19,6 +19,7 @@ use Rattle.gradient.proofs.Index.{tab-cong}
 use Rattle.image.specs.declared.Sizes.{Sizes}
 use Rattle.image.specs.Sizes.{commandCount, sound}
 use Rattle.image.specs.Layout.{sizesOf}
+use Rattle.image.proofs.Ordering.{or-assoc}
 use Rattle.line.specs.Line.{lineAt, isFrame, frameAt}
 use Rattle.line.specs.declared.Line.{Line}
 use Rattle.line.specs.declared.Line.the-variants.{Frame, Malformed, End}
@@ -33,7 +34,7 @@ use Rattle.sheet.specs.Sheet.{linesNumber, linesWords, headNumber, headWords, s
 use Rattle.sheet.proofs.Answer.{passing}
 use Rattle.sheet.proofs.Image.{image-sizes}
 use Rattle.sheet.proofs.Reach.{first-cong}
-use Rattle.intake.specs.Intake.{intakeNumber, ownTables}
+use Rattle.intake.specs.Intake.{bufferNumber, designNumber, intakeNumber, ownTables}
 use Rattle.former.specs.Former as former
 use Rattle.former.specs.Unchanged.{targetByte, SameIntake}
 use Rattle.former.proofs.Images.{sound-same, tables-same, sizes-same}
@@ -178,9 +179,13 @@ module _ (s : List ℕ) (same : headOf (lineAt s 0) ≡ former.headOf (lineAt s 
   unfolding former.sizesOf
   tables-number = rw (sizes-same (sheetImage s) image-zero) (tables-same (former.sizesOf (sheetImage s)) refl (sheetImage s))
 
+  intake-number : (room : ℕ) → intakeNumber s room ≡ former.intakeNumber s room
+  unfolding intakeNumber designNumber former.intakeNumber
+  intake-number room =
+      or-assoc (sheetNumber s) (ownTables (sheetImage s)) (bufferNumber (length (sheetImage s)) room) ∙ rw (tables-number, sheet-number, sheet-image)
+
   unchanged : (room : ℕ) → SameIntake s room
-  unfolding intakeNumber former.intakeNumber
-  unchanged room = record { number = rw (tables-number, sheet-number, sheet-image); image = sheet-image; targets = image-zero }
+  unchanged room = record { number = intake-number room; image = sheet-image; targets = image-zero }
 
 -- ---- the laws
 -- the sheets with 0 in that byte, the refused ones among them

@@ -1,17 +1,19 @@
 -- The word of a line's double, and what a line gives where one is due. Assumes nothing.
-use mathlib.Core.Path.{_≡_, refl}
-use mathlib.Core.Bool.{Bool, true, false, cond, _&&_}
+use mathlib.Core.Path.{_≡_, refl, ap, _∙_}
+use mathlib.Core.Bool.{Bool, true, false, cond, _&&_, and-false, false≢true}
 use Prim.Native.Nat.{ℕ}
 use native.Mathlib.Omega.{arith}
 use lib.IntN.{ℤ, pos, negsuc}
-use lib.Ieee.{Float, binary64, ofBits}
+use lib.Ieee.{Float, nan, binary64, ofBits}
 use lib.Signed.{leZ}
-use borrow.Author.Tests.{le-leb}
+use borrow.Author.Tests.{eq-eqb, le-leb}
 use Rattle.word.specs.Format.{isFormat, top, inWord}
-use Rattle.double.specs.Double.{convert, accepted, scalable, rounded, roundUp, ruleOf, convertedNumber, roundDown}
+use Rattle.double.specs.Double.{convert, accepted, scalable, rounded, roundUp, ruleOf, convertedNumber, doubleValue, roundDown}
 use Rattle.double.specs.declared.Converted.{Converted}
 use Rattle.double.specs.declared.Converted.the-variants.{Word, Refused}
+use Rattle.double.proofs.Back.{round-trip}
 use Rattle.double.proofs.Convert.{convert-word}
+use Rattle.double.proofs.Rules.{is-rule}
 use Rattle.image.specs.declared.Sizes.{Sizes}
 use Rattle.line.specs.declared.Line.{Line}
 use Rattle.line.specs.declared.Line.the-variants.{Frame, Malformed, End}
@@ -72,6 +74,15 @@ module _ (z : Sizes) (kind : ℕ) (x : Float) where
   unfolding wordOf
   word-rounded v e = convert-word rule (z .b) (z .w) x (not-below-word (isInputLimit kind) (convert rule (z .b) (z .w) x) v e) .1
 
+  -- a NaN has none
+  pub nan-refused : x ≡ nan → wordOf z kind x ≡ Refused
+  unfolding wordOf accepted scalable
+  nan-refused e = rw (e, and-false (isFormat (z .b) (z .w))) (either (isInputLimit kind))
+    where
+      either : (t : Bool) → cond t Refused Refused ≡ Refused
+      either true = refl
+      either false = refl
+
   pub kind-4 : kind ≡ 4 → wordOf z kind x ≡ convert roundUp (z .b) (z .w) x
   unfolding wordOf
   kind-4 h = rw h
@@ -80,7 +91,28 @@ module _ (z : Sizes) (kind : ℕ) (x : Float) where
   unfolding wordOf
   kind-5 h = rw h
 
+-- ---- the way back
+not-below : (v : ℤ) → leZ (pos 0) v ≡ true → notBelowZero (Word v) ≡ Word v
+not-below (pos n) h = refl
+not-below (negsuc n) h = absurd (false≢true h)
+
+-- the double of a word has that word by every kind that may have it
+pub word-back : (z : Sizes) (kind : ℕ) (v : ℤ) → isFormat (z .b) (z .w) ≡ true → inWord (z .w) v ≡ true → (isInputLimit kind ≡ true → leZ (pos 0) v ≡ true) → wordOf z kind (doubleValue (z .b) (z .w) v) ≡ Word v
+unfolding wordOf
+word-back z kind v u i n =
+    ap (λ (c : Converted). cond (isInputLimit kind) (notBelowZero c) c) (round-trip (ruleOf (roundingOf kind)) (is-rule (roundingOf kind)) (z .b) (z .w) v u i)
+    ∙ by (isInputLimit kind) refl
+  where
+    by : (t : Bool) → isInputLimit kind ≡ t → cond t (notBelowZero (Word v)) (Word v) ≡ Word v
+    by true e = not-below v (n e)
+    by false e = refl
+
 -- ---- what a line gives
+
+-- the frame due gives its double
+pub due-value : (d : Due) (bits : ℕ) → valueOf d (Frame (d .kind) (d .row) (d .column) bits) ≡ Double (ofBits binary64 bits)
+due-value d bits = rw (eq-eqb (d .kind) (d .kind) refl, eq-eqb (d .row) (d .row) refl, eq-eqb (d .column) (d .column) refl) refl
+
 none : (b : Bool) (x : Float) (n : ℕ) → cond b (Double x) (Fault 2) ≡ Fault n → n ≡ 0 → ⊥
 none true x n e q = let u : _≡_ {A = ℕ} 0 1 = cc in omega arith
 none false x n e q = let u : n ≡ 2 = cc in omega arith

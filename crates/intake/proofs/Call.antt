@@ -1,21 +1,33 @@
--- The call: what the words that were read give at each way out. Assumes nothing.
+-- What the words that were read give at each way out, of the design's reading and of the call. Assumes nothing.
 use mathlib.Core.Path.{_≡_, sym, ap, _∙_}
+use mathlib.Core.Bool.{cond}
 use mathlib.Core.List.{List}
 use Prim.Native.Nat.{ℕ, _*_}
+use lib.Dec.{eqb}
 use lib.IntN.{ℤ}
-use lib.ListN.{take}
+use lib.ListN.{length, take}
 use borrow.Author.Tests.{eq-eqb, ne-eqb}
 use Rattle.word.specs.Word.{wordsOut}
+use Rattle.image.specs.Order.{orElse}
+use Rattle.image.proofs.Ordering.{none, onward, refused}
 use Rattle.sheet.specs.Reading.{Answered}
 use Rattle.sheet.specs.Sheet.{sheetImage, sheetNumber, sheetWords}
 use Rattle.sheet.proofs.Answer.{image-length, read-fit, read-image, read-passing}
 use Rattle.sheet.proofs.Image.{image-whole}
-use Rattle.intake.specs.Intake.{ImageWords, intakeNumber, ownTables}
+use Rattle.intake.specs.Intake.{ImageWords, bufferNumber, designNumber, intakeNumber, ownTables}
 
+-- ---- a refusal leaves the caller's buffer
+pub unwritten : (n : ℕ) (before written : List ℕ) → (n ≡ 0 → ⊥) → before ≡ cond (eqb n 0) written before
+unwritten n before written h = rw (ne-eqb n 0 h)
+
+-- ---- lines and end, then 7 to 12
 module _ (s : List ℕ) (n c : ℕ) (ws : List ℤ) (a : Answered (sheetNumber s) (sheetWords s) n c ws) where
-  pub refused-lines : (room : ℕ) → (n ≡ 0 → ⊥) → n ≡ intakeNumber s room
-  unfolding intakeNumber
-  refused-lines room h = rw (ne-eqb (sheetNumber s) 0 (λ (e : sheetNumber s ≡ 0). h (a .number-is ∙ e))) (a .number-is)
+  lines-number : (n ≡ 0 → ⊥) → n ≡ designNumber s
+  unfolding designNumber
+  lines-number h = refused (sheetNumber s) (ownTables (sheetImage s)) n (a .number-is) h
+
+  pub refused-lines : (n ≡ 0 → ⊥) → Answered (designNumber s) (sheetWords s) n c ws
+  refused-lines h = record { number-is = lines-number h; words-are = λ e. absurd (h e); count-is = λ e. absurd (h e); count-high = a .count-high }
 
   module _ (e : n ≡ 0) where
     pub image-words : ImageWords (take c ws)
@@ -24,18 +36,50 @@ module _ (s : List ℕ) (n c : ℕ) (ws : List ℤ) (a : Answered (sheetNumber s
       whole = rw (read-image s n c ws a e) (image-whole s (read-passing s n c ws a e));
     }
 
-    module _ (f : ℕ) (t : f ≡ ownTables (wordsOut (take c ws))) (room : ℕ) where
-      tables-are : ownTables (sheetImage s) ≡ f
-      tables-are = ap ownTables (sym (read-image s n c ws a e)) ∙ sym t
+    module _ (f : ℕ) (t : f ≡ ownTables (wordsOut (take c ws))) where
+      tables-number : f ≡ designNumber s
+      unfolding designNumber
+      tables-number = onward (sheetNumber s) (ownTables (sheetImage s)) n f (a .number-is) e (t ∙ ap ownTables (read-image s n c ws a e))
 
-      pub refused-tables : (f ≡ 0 → ⊥) → f ≡ intakeNumber s room
-      unfolding intakeNumber
-      refused-tables h = rw (eq-eqb (sheetNumber s) 0 (sym (a .number-is) ∙ e), tables-are, ne-eqb f 0 h)
+      pub read-tables : Answered (designNumber s) (sheetWords s) f c ws
+      read-tables = record { number-is = tables-number; words-are = λ _. a .words-are e; count-is = λ _. a .count-is e; count-high = a .count-high }
 
-      pub refused-room : f ≡ 0 → (room ≡ 4 * c → ⊥) → 15 ≡ intakeNumber s room
-      unfolding intakeNumber
-      refused-room h r = rw (eq-eqb (sheetNumber s) 0 (sym (a .number-is) ∙ e), tables-are, eq-eqb f 0 h, image-length s n c ws a e, ne-eqb room (4 * c) r)
+-- an accepted design passed both
+pub accepted-design : (s : List ℕ) → designNumber s ≡ 0 → (sheetNumber s ≡ 0) × (ownTables (sheetImage s) ≡ 0)
+unfolding designNumber
+accepted-design s e = none (sheetNumber s) (ownTables (sheetImage s)) e
 
-      pub accepted-call : f ≡ 0 → room ≡ 4 * c → 0 ≡ intakeNumber s room
-      unfolding intakeNumber
-      accepted-call h r = rw (eq-eqb (sheetNumber s) 0 (sym (a .number-is) ∙ e), tables-are, eq-eqb f 0 h, image-length s n c ws a e, eq-eqb room (4 * c) r)
+-- ---- then 15
+pub buffer-fits : (size room : ℕ) → room ≡ size → 0 ≡ bufferNumber size room
+buffer-fits size room h = rw (eq-eqb room size h)
+
+pub buffer-refused : (size room : ℕ) → (room ≡ size → ⊥) → 15 ≡ bufferNumber size room
+buffer-refused size room h = rw (ne-eqb room size h)
+
+module _ (s : List ℕ) (n c : ℕ) (ws : List ℤ) (a : Answered (designNumber s) (sheetWords s) n c ws) where
+  -- a design that is refused, whatever the buffer
+  pub refused-design : (b : ℕ) → (n ≡ 0 → ⊥) → n ≡ orElse (designNumber s) b
+  refused-design b h = refused (designNumber s) b n (a .number-is) h
+
+  pub refused-call : (room : ℕ) → (n ≡ 0 → ⊥) → n ≡ intakeNumber s room
+  unfolding intakeNumber
+  refused-call room h = refused-design (bufferNumber (length (sheetImage s)) room) h
+
+  -- and one that passed
+  module _ (e : n ≡ 0) where
+    pub read-lines : Answered (sheetNumber s) (sheetWords s) n c ws
+    read-lines = record { number-is = e ∙ sym (accepted-design s (sym (a .number-is) ∙ e) .0); words-are = a .words-are; count-is = a .count-is; count-high = a .count-high }
+
+    pub then-buffer : (b r : ℕ) → r ≡ b → r ≡ orElse (designNumber s) b
+    then-buffer b r h = onward (designNumber s) b n r (a .number-is) e h
+
+    size-is : (room : ℕ) → bufferNumber (4 * c) room ≡ bufferNumber (length (sheetImage s)) room
+    size-is room = ap (λ (k : ℕ). bufferNumber k room) (sym (image-length s n c ws read-lines e))
+
+    pub refused-room : (room : ℕ) → (room ≡ 4 * c → ⊥) → 15 ≡ intakeNumber s room
+    unfolding intakeNumber
+    refused-room room h = then-buffer (bufferNumber (length (sheetImage s)) room) 15 (buffer-refused (4 * c) room h ∙ size-is room)
+
+    pub accepted-call : (room : ℕ) → room ≡ 4 * c → 0 ≡ intakeNumber s room
+    unfolding intakeNumber
+    accepted-call room h = then-buffer (bufferNumber (length (sheetImage s)) room) 0 (buffer-fits (4 * c) room h ∙ size-is room)

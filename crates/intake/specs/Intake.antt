@@ -15,10 +15,17 @@ use Rattle.sheet.specs.Sheet.{sheetNumber, sheetImage}
 abbrev pub ownTables : List ℕ → ℕ
 ownTables image = tablesNumber (sizesOf image) image
 
--- "tested through its lines and end, then 7 to 12, then 15", for a buffer of `room` bytes
+-- "tested through its lines and end, then 7 to 12"
+unfoldable pub designNumber : List ℕ → ℕ
+designNumber sheet = orElse (sheetNumber sheet) (ownTables (sheetImage sheet))
+
+-- "then 15", for a buffer of `room` bytes where `size` bytes are to be written
+abbrev pub bufferNumber : ℕ → ℕ → ℕ
+bufferNumber size room = firstFault (check 15 (eqb room size) ∷ [])
+
+-- the number of the call, for a buffer of `room` bytes
 unfoldable pub intakeNumber : List ℕ → ℕ → ℕ
-intakeNumber sheet room =
-    orElse (sheetNumber sheet) (orElse (ownTables (sheetImage sheet)) (firstFault (check 15 (eqb room (length (sheetImage sheet))) ∷ [])))
+intakeNumber sheet room = orElse (designNumber sheet) (bufferNumber (length (sheetImage sheet)) room)
 
 -- the bytes "written to the caller's buffer" with number 0
 abbrev pub intakeImage : List ℕ → List ℕ

@@ -19,7 +19,7 @@ use Rattle.frame.specs.Frame.{dueAt, headOf, total, wordOf}
 use Rattle.lines.specs.Lines.{lineFault, lineValue, lineWord}
 use Rattle.sheet.specs.Sample.{Sample, changed, lines, sample, text}
 use Rattle.sheet.specs.Sheet.{sheetImage, sheetNumber, sheetWords}
-use Rattle.intake.specs.Intake.{intakeNumber}
+use Rattle.intake.specs.Intake.{designNumber, intakeNumber}
 
 -- ---- the number of the call, for a buffer of 56 bytes and of 55
 
@@ -41,9 +41,9 @@ abbrev shortCalls : List Sample
 shortCalls = sample 15 (text lines) ∷ sample 7 crossed ∷ sample 12 crowded ∷ []
 
 call-numbers : map (λ (x : Sample). intakeNumber (x .sheet) 56) calls ≡ map (λ (x : Sample). x .number) calls
-unfolding isHex digitOf hexes hexAt digitByte hexDigits numberBE digitsBE bytesBE wordsOut ofBits floor scalable rounded accepted sound lineAt headOf total dueAt wordOf lineValue lineFault lineWord sheetNumber sheetWords sheetImage intakeNumber natBE wordsAt sizesOf lowerAt upperAt momentumAt boundAt entryOf commandAt problemAt symmetryTest othersAt marginAt totalAt leastMargin largestTotal momentumRange momentumRatio pointTest rowTest tablesNumber F ceil magnitude width rangeP rangeY rangeA rangeB
+unfolding isHex digitOf hexes hexAt digitByte hexDigits numberBE digitsBE bytesBE wordsOut ofBits floor scalable rounded accepted sound lineAt headOf total dueAt wordOf lineValue lineFault lineWord sheetNumber sheetWords sheetImage designNumber intakeNumber natBE wordsAt sizesOf lowerAt upperAt momentumAt boundAt entryOf commandAt problemAt symmetryTest othersAt marginAt totalAt leastMargin largestTotal momentumRange momentumRatio pointTest rowTest tablesNumber F ceil magnitude width rangeP rangeY rangeA rangeB
 call-numbers = refl
 
 short-numbers : map (λ (x : Sample). intakeNumber (x .sheet) 55) shortCalls ≡ map (λ (x : Sample). x .number) shortCalls
-unfolding isHex digitOf hexes hexAt digitByte hexDigits numberBE digitsBE bytesBE wordsOut ofBits floor scalable rounded accepted sound lineAt headOf total dueAt wordOf lineValue lineFault lineWord sheetNumber sheetWords sheetImage intakeNumber natBE wordsAt sizesOf lowerAt upperAt momentumAt boundAt entryOf commandAt problemAt symmetryTest othersAt marginAt totalAt leastMargin largestTotal momentumRange momentumRatio pointTest rowTest tablesNumber F ceil magnitude width rangeP rangeY rangeA rangeB
+unfolding isHex digitOf hexes hexAt digitByte hexDigits numberBE digitsBE bytesBE wordsOut ofBits floor scalable rounded accepted sound lineAt headOf total dueAt wordOf lineValue lineFault lineWord sheetNumber sheetWords sheetImage designNumber intakeNumber natBE wordsAt sizesOf lowerAt upperAt momentumAt boundAt entryOf commandAt problemAt symmetryTest othersAt marginAt totalAt leastMargin largestTotal momentumRange momentumRatio pointTest rowTest tablesNumber F ceil magnitude width rangeP rangeY rangeA rangeB
 short-numbers = refl

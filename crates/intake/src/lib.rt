@@ -5,7 +5,10 @@ ghost use Prim.Native.Nat.{_*_};
 ghost use lib.Dec.{eqb};
 ghost use lib.ListN.{length};
 ghost use Rattle.word.specs.Word.{wordsOut};
-ghost use Rattle.intake.specs.Intake.{ownTables, intakeNumber, intakeImage, ImageWords};
+ghost use Rattle.sheet.specs.Sheet.{sheetWords};
+ghost use Rattle.sheet.specs.Reading.{Answered};
+ghost use Rattle.intake.specs.Intake.{ownTables, designNumber, intakeNumber, intakeImage, ImageWords};
+use sheet::Outcome;
 
 // Room for the largest image. A call, since a literal array would stand in every goal.
 pub fn blank_image() -> [u8; 2180]
@@ -24,25 +27,36 @@ fn own_tables(buffer: &mut [u8], words: &[i64]) -> u32
     tables::tables_number(buffer, z)
 }
 
+// Reads a sheet and tests it: lines and end, then 7 to 12. With 0 the lent array has the image's words in front.
+pub fn read_design(words: &mut [i64; 545], sheet: &[u8]) -> Outcome
+    requires { ⌜ length (now words) ≡ 545 ⌝ }
+    ensures { λ r. ⌜ Answered (designNumber (now (sheet .entry))) (sheetWords (now (sheet .entry))) (r .number) (r .count) (now (words .exit)) ⌝ }
+{
+    let t = sheet::read_sheet(words, sheet);
+    if t.number != 0 {
+        return t;
+    }
+    let count = t.count;
+    let mut buffer = blank_image();
+    let size = 4 * count;
+    let all = &words[..]; // the checker takes a part of a slice, not of a lent array
+    let number = own_tables(&mut buffer[..size], &all[..count]);
+    Outcome { number, count }
+}
+
 // The call: the image of an accepted sheet is written.
 pub fn intake(sheet: &[u8], image: &mut [u8]) -> u32
     ensures number { λ r. ⌜ r ≡ intakeNumber (now (sheet .entry)) (length (now (image .entry))) ⌝ }
     ensures bytes { λ r. ⌜ now (image .exit) ≡ cond (eqb r 0) (intakeImage (now (sheet .entry))) (now (image .entry)) ⌝ }
 {
-    let t = sheet::read_sheet(sheet);
+    let mut words = sheet::blank_words();
+    let t = read_design(&mut words, sheet);
     let number = t.number;
     if number != 0 {
         return number;
     }
     let count = t.count;
-    let words = t.words;
-    let mut buffer = blank_image();
-    let size = 4 * count;
-    let fault = own_tables(&mut buffer[..size], &words[..count]);
-    if fault != 0 {
-        return fault;
-    }
-    if image.len() != size {
+    if image.len() != 4 * count {
         return 15;
     }
     word::put_words(image, &words[..count]);

@@ -13,6 +13,7 @@ use Rattle.sheet.proofs.Answer.{passing}
 use Rattle.sheet.proofs.Image.{image-sizes}
 use Rattle.intake.specs.Intake.{intakeImage, intakeNumber}
 use Rattle.intake.proofs.Laws.{accepted-sheet}
+use Rattle.word.specs.Buffer.{joined}
 use Rattle.word_file.specs.WordFile.{fileWords}
 use Rattle.text.specs.Text.{refusal}
 use Rattle.label_files.specs.Files.{formNumber, targetForm}
@@ -26,7 +27,7 @@ image-count drive e =
     ap (λ (z : Sizes). z .nr) (image-sizes drive p) ∙ sym (ap headTargets (p .head))
 
 pub untargeted : (image state target other : List ℕ) → sizesOf image .nr ≡ 0 → imageText image state target ≡ imageText image state other
-unfolding imageText filesNumber formNumber targetForm fileWords
+unfolding imageText filesNumber formNumber targetForm joined fileWords
 untargeted image state target other e = rw e
 
 pub unread : (drive state target : List ℕ) → targetCount drive ≡ 0 → labelText drive state target ≡ labelText drive state []

@@ -22,7 +22,8 @@ pub struct Drive {
 fn read_drive(drive: &[u8]) -> Drive
     ensures { λ r. ⌜ ReadDrive (now (drive .entry)) r ⌝ }
 {
-    let t = sheet::read_sheet(drive);
+    let mut words = sheet::blank_words();
+    let t = sheet::read_sheet(&mut words, drive);
     let length = 4 * t.count;
     let mut image = intake::blank_image();
     let number = gantry::gantry_intake(drive, &mut image[..length]);

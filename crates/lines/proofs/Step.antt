@@ -1,18 +1,19 @@
 -- One line more. Assumes nothing.
 use mathlib.Core.Path.{_≡_, refl, sym, ap, _∙_, subst}
-use mathlib.Core.Bool.{Bool, true, false, _&&_, cond, false≢true}
+use mathlib.Core.Bool.{Bool, true, false, not, _&&_, cond, false≢true}
 use mathlib.Core.List.{List}
 use mathlib.Core.Logic.{⊎-elim}
 use Prim.Native.Nat.{ℕ, _+_, _-_, _*_, _<_}
 use lib.IntN.{ℤ, pos}
-use lib.Ieee.{Float, nan}
+use lib.Dec.{T}
+use lib.Ieee.{Float, nan, inf, fin, isNan}
 use native.Mathlib.Nat.{eq-or-lt-of-le, le-of-suc-le-suc}
 use native.Mathlib.Numerals.{add-one}
 use native.Mathlib.Omega.{arith}
 use lib.ListN.{length, getD, set, length-set}
 use lib.Seq.{getD-set-same, getD-set-other}
 use borrow.Author.Count.{below-more}
-use Rattle.double.specs.Double.{convert, accepted, rounded, roundUp, roundDown, convertLimits}
+use Rattle.double.specs.Double.{convert, convertedNumber, accepted, rounded, roundUp, roundDown, convertLimits}
 use Rattle.double.specs.declared.Converted.the-variants.{Word, Refused}
 use Rattle.double.specs.declared.LimitWords.the-variants.{Pair, NoPair}
 use Rattle.double.specs.declared.Limits.{Limits}
@@ -27,7 +28,7 @@ use Rattle.frame.specs.declared.Value.the-variants.{Double, Fault}
 use Rattle.frame.specs.Frame.{convertedWord, dueAt, isLow, lowBase, total, valueDouble, valueNumber, valueOf, wordOf}
 use Rattle.frame.proofs.Laws.{total-high}
 use Rattle.frame.proofs.Limits.{high-due, high-of, low-due, low-of}
-use Rattle.frame.proofs.Word.{fault-some, is-word, kind-4, kind-5}
+use Rattle.frame.proofs.Word.{fault-some, is-word, kind-4, kind-5, nan-refused}
 use Rattle.lines.specs.Lines.{lineDouble, lineFault, lineValue, lineWord, ReadTo}
 
 -- ---- what a line holds
@@ -51,6 +52,17 @@ module _ (z : Sizes) (s : List ℕ) (i : ℕ) where
   pub fault-refused : (x : Float) → lineValue z s i ≡ Double x → wordOf z (dueAt z i .kind) x ≡ Refused → lineFault z s i ≡ 5
   unfolding lineFault
   fault-refused x e h = rw (e, h)
+
+  -- a line without a fault has a double that is a number
+  pub line-number : lineFault z s i ≡ 0 → T (not (isNan (lineDouble z s i)))
+  unfolding lineFault isNan
+  line-number = by (lineValue z s i) refl
+    where
+      by : (g : Value) → lineValue z s i ≡ g → valueNumber z (dueAt z i .kind) g ≡ 0 → T (not (isNan (valueDouble g)))
+      by (Double nan) e h = let n : _≡_ {A = ℕ} 5 0 = ap convertedNumber (sym (nan-refused z (dueAt z i .kind) nan refl)) ∙ h in let w : ⊥ = omega arith in absurd w
+      by (Double (inf t)) e h = tt
+      by (Double (fin t m k)) e h = tt
+      by (Fault n) e h = absurd (fault-none n e h)
 
 -- ---- both limits of a motor
 module _ (z : Sizes) (s : List ℕ) (k : ℕ) where

@@ -1,22 +1,44 @@
 -- The whole sheet: what it answers, and what its words then say. Assumes nothing.
 use mathlib.Core.Path.{_≡_, refl, sym, ap, _∙_}
-use mathlib.Core.List.{List}
-use Prim.Native.Nat.{ℕ, _≤_, _*_}
+use mathlib.Core.List.{List, _++_}
+use Prim.Native.Nat.{ℕ, _+_, _*_, _≤_, _<_}
 use lib.IntN.{ℤ}
 use native.Mathlib.Omega.{arith}
 use lib.ListN.{length, take, length-take}
-use borrow.Author.Tests.{eq-eqb}
+use borrow.Author.Tests.{eq-eqb, le-leb}
 use Rattle.word.specs.Word.{Words, wordsOut}
 use Rattle.word.proofs.Words.{length-words}
+use Rattle.gradient.proofs.Index.{tab-cong}
 use Rattle.image.specs.declared.Sizes.{Sizes}
 use Rattle.line.specs.Line.{lineAt}
 use Rattle.frame.specs.declared.Head.{Head}
 use Rattle.frame.specs.declared.Head.the-variants.{Sized, Unsized}
-use Rattle.frame.specs.Frame.{headOf}
+use Rattle.frame.specs.Frame.{headOf, total}
 use Rattle.frame.proofs.Sized.{head-none, head-sound}
+use Rattle.lines.specs.Lines.{lineFault, lineWord, sizeWords}
 use Rattle.sheet.specs.Reading.{Answered}
-use Rattle.sheet.specs.Sheet.{headNumber, linesNumber, linesWords, sheetImage, sheetNumber, sheetWords}
+use Rattle.sheet.specs.Sheet.{endNumber, headNumber, linesNumber, linesWords, sheetImage, sheetNumber, sheetWords}
 use Rattle.sheet.proofs.Fits.{lines-fit}
+use Rattle.sheet.proofs.Whole.{first-none}
+
+-- ---- line 01 gives sizes
+module _ (z : Sizes) (s : List ℕ) (h : headOf (lineAt s 0) ≡ Sized z) where
+  sized-words : sheetNumber s ≡ 0 → sheetWords s ≡ linesWords z s
+  unfolding sheetWords
+  sized-words e = rw (eq-eqb (sheetNumber s) 0 e, h)
+
+  -- no line has a fault, and no byte follows the last
+  pub sized-passes : ((i : ℕ) → i < total z → lineFault z s i ≡ 0) → length s ≤ 23 * (total z + 1) → sheetNumber s ≡ 0
+  unfolding sheetNumber
+  sized-passes f l = rw h (first-none (lineFault z s) (total z) (endNumber z s) f ∙ rw (le-leb (length s) (23 * (total z + 1)) l))
+
+-- two sheets that pass with the same sizes and the same word of each line
+pub image-cong : (z : Sizes) (s t : List ℕ) → headOf (lineAt s 0) ≡ Sized z → headOf (lineAt t 0) ≡ Sized z → sheetNumber s ≡ 0 → sheetNumber t ≡ 0
+    → ((i : ℕ) → i < total z → lineWord z s i ≡ lineWord z t i) → sheetImage s ≡ sheetImage t
+unfolding sheetImage
+image-cong z s t h k p q e =
+    ap wordsOut
+    (sized-words z s h p ∙ ap (λ (ws : List ℤ). sizeWords z ++ ws) (tab-cong (lineWord z s) (lineWord z t) (total z) e) ∙ sym (sized-words z t k q))
 
 -- ---- a sheet that passes
 pub record Passing (s : List ℕ) : Type 0 where
@@ -26,7 +48,7 @@ pub record Passing (s : List ℕ) : Type 0 where
   pub words : sheetWords s ≡ linesWords sizes s
 
 pub passing : (s : List ℕ) → sheetNumber s ≡ 0 → Passing s
-unfolding sheetNumber sheetWords
+unfolding sheetNumber
 passing s e = by (headOf (lineAt s 0)) refl
   where
     number-by : (h : Head) → headOf (lineAt s 0) ≡ h → headNumber h s ≡ 0
@@ -37,7 +59,7 @@ passing s e = by (headOf (lineAt s 0)) refl
       sizes = z;
       head = h;
       number = number-by (Sized z) h;
-      words = rw (eq-eqb (sheetNumber s) 0 e, h);
+      words = sized-words z s h e;
     }
     by (Unsized n) h = absurd (head-none (lineAt s 0) n h (number-by (Unsized n) h))
 
@@ -57,8 +79,7 @@ module _ (s : List ℕ) (n c : ℕ) (ws : List ℤ) where
     number-of = rw h (t .number-is)
 
     words-of : n ≡ 0 → sheetWords s ≡ linesWords z s
-    unfolding sheetWords
-    words-of e = rw (eq-eqb (sheetNumber s) 0 (sym number-of ∙ e), h)
+    words-of e = sized-words z s h (sym number-of ∙ e)
 
     pub answered-sized : Answered (sheetNumber s) (sheetWords s) n c ws
     answered-sized = record {

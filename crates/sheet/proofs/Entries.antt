@@ -55,34 +55,46 @@ module _ (z : Sizes) (s : List ℕ) (i : ℕ) (f : lineFault z s i ≡ 0) where
       by (Double x) e h = refl
       by (Fault n) e h = absurd (fault-none z s i n e h)
 
-  line-frame : (isFrame s at ≡ true) × (valueOf (dueAt z i) (frameAt s at) ≡ Double (lineDouble z s i))
+  pub line-frame : (isFrame s at ≡ true) × (valueOf (dueAt z i) (frameAt s at) ≡ Double (lineDouble z s i))
   unfolding lineValue
   line-frame = framed (λ (l : Line). valueOf (dueAt z i) l ≡ Double (lineDouble z s i)) s at (λ e. differ (cc)) (λ e. differ (cc)) value-double
 
-  line-due : (isDue (dueAt z i) (hexAt 2 s at) (hexAt 2 s (at + 2)) (hexAt 2 s (at + 4)) ≡ true) × (lineDouble z s i ≡ ofBits binary64 (hexAt 16 s (at + 6)))
+  pub line-due : (isDue (dueAt z i) (hexAt 2 s at) (hexAt 2 s (at + 2)) (hexAt 2 s (at + 4)) ≡ true) × (lineDouble z s i ≡ ofBits binary64 (hexAt 16 s (at + 6)))
   line-due = due-double (isDue (dueAt z i) (hexAt 2 s at) (hexAt 2 s (at + 2)) (hexAt 2 s (at + 4))) (ofBits binary64 (hexAt 16 s (at + 6))) (lineDouble z s i) (line-frame .1)
+
+  kind-and-row : eqb (hexAt 2 s at) (dueAt z i .kind) && eqb (hexAt 2 s (at + 2)) (dueAt z i .row) ≡ true
+  kind-and-row =
+      both (eqb (hexAt 2 s at) (dueAt z i .kind) && eqb (hexAt 2 s (at + 2)) (dueAt z i .row)) (eqb (hexAt 2 s (at + 4)) (dueAt z i .column)) (line-due .0) .0
+
+  pub kind-due : hexAt 2 s at ≡ dueAt z i .kind
+  kind-due = eqb-true _ _ (both (eqb (hexAt 2 s at) (dueAt z i .kind)) (eqb (hexAt 2 s (at + 2)) (dueAt z i .row)) kind-and-row .0)
+
+  pub row-due : hexAt 2 s (at + 2) ≡ dueAt z i .row
+  row-due = eqb-true _ _ (both (eqb (hexAt 2 s at) (dueAt z i .kind)) (eqb (hexAt 2 s (at + 2)) (dueAt z i .row)) kind-and-row .1)
+
+  pub column-due : hexAt 2 s (at + 4) ≡ dueAt z i .column
+  column-due =
+      eqb-true _ _
+      (both (eqb (hexAt 2 s at) (dueAt z i .kind) && eqb (hexAt 2 s (at + 2)) (dueAt z i .row)) (eqb (hexAt 2 s (at + 4)) (dueAt z i .column)) (line-due .0) .1)
 
   line-rounded : lineWord z s i ≡ rounded (ruleOf (roundingOf (dueAt z i .kind))) (z .b) (lineDouble z s i)
   unfolding lineFault lineWord
   line-rounded = word-rounded z (dueAt z i .kind) (lineDouble z s i) _ (passed-word z s i (lineValue z s i) refl f)
 
   pub line-facts : wordAt (sheetImage s) (4 * (8 + i)) ≡ lineWord z s i → Rounded z s i
-  line-facts w =
-      let p = both (eqb (hexAt 2 s at) (dueAt z i .kind) && eqb (hexAt 2 s (at + 2)) (dueAt z i .row)) (eqb (hexAt 2 s (at + 4)) (dueAt z i .column)) (line-due .0) in
-      let q = both (eqb (hexAt 2 s at) (dueAt z i .kind)) (eqb (hexAt 2 s (at + 2)) (dueAt z i .row)) (p .0) in
-      record {
-        kind = eqb-true _ _ (q .0);
-        row = eqb-true _ _ (q .1);
-        column = eqb-true _ _ (p .1);
-        word = w ∙ line-rounded ∙ ap (rounded (ruleOf (roundingOf (dueAt z i .kind))) (z .b)) (line-due .1);
-      }
+  line-facts w = record {
+    kind = kind-due;
+    row = row-due;
+    column = column-due;
+    word = w ∙ line-rounded ∙ ap (rounded (ruleOf (roundingOf (dueAt z i .kind))) (z .b)) (line-due .1);
+  }
 
 -- ---- the sheet
 module _ (s : List ℕ) (e : sheetNumber s ≡ 0) where
   abbrev p : Passing s
   p = passing s e
 
-  passes : ((k : ℕ) → k < total (p .sizes) → lineFault (p .sizes) s k ≡ 0) × (endNumber (p .sizes) s ≡ 0)
+  pub passes : ((k : ℕ) → k < total (p .sizes) → lineFault (p .sizes) s k ≡ 0) × (endNumber (p .sizes) s ≡ 0)
   passes = first-zero (lineFault (p .sizes) s) (total (p .sizes)) (endNumber (p .sizes) s) (p .number)
 
   -- the sizes are those of line 01

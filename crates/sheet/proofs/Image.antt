@@ -6,7 +6,6 @@ use Prim.Native.Nat.{ℕ, _+_, _*_, _<_}
 use native.Mathlib.Omega.{arith}
 use lib.IntN.{pos}
 use lib.ListN.{length, getD, List·getD-append}
-use lib.Seq.{getD-append-add}
 use lib.Signed.{leZ}
 use borrow.Author.Tests.{eq-eqb, le-leb}
 use mir.Syntax.{w32}
@@ -15,7 +14,6 @@ use mir.Facts.{fits-ofZ}
 use Rattle.word.specs.Word.{natAt, wordAt, wordsOut}
 use Rattle.word.proofs.Words.{length-words, word-of-words, nat-of-words}
 use Rattle.gradient.specs.Index.{tab, allTo}
-use Rattle.gradient.proofs.Index.{tab-at}
 use Rattle.gradient.proofs.Tests.{all-of}
 use Rattle.image.specs.Sizes.{commandCount, inputCount, bodyCount, sound, Sound, Whole}
 use Rattle.image.specs.Layout.{sizesOf, boundAt, boundPlace, boundsFrom, targetBoundPlace}
@@ -32,7 +30,7 @@ use Rattle.lines.specs.Lines.{lineWord, sizeWords}
 use Rattle.sheet.specs.Sheet.{linesWords, sheetImage}
 use Rattle.sheet.proofs.Answer.{Passing}
 use Rattle.sheet.proofs.Fits.{input-limit, line-word-in, lines-fit}
-use Rattle.sheet.proofs.Whole.{long}
+use Rattle.sheet.proofs.Whole.{line-at, long}
 
 -- ---- the image of lines with sound sizes
 module _ (z : Sizes) (s : List ℕ) (o : Sound z) where
@@ -54,9 +52,7 @@ module _ (z : Sizes) (s : List ℕ) (o : Sound z) where
   pub line-word : (i : ℕ) → i < bodyCount z → wordAt image (4 * (8 + i)) ≡ lineWord z s i
   line-word i h =
       let l : i < total z = omega (arith, total-is z) in
-      word-of-words (linesWords z s) (8 + i) (lines-fit z s o) (omega (arith, long z s))
-      ∙ getD-append-add (sizeWords z) (tab (lineWord z s) (total z)) i (pos 0)
-      ∙ tab-at (lineWord z s) (total z) i (pos 0) l
+      word-of-words (linesWords z s) (8 + i) (lines-fit z s o) (omega (arith, long z s)) ∙ line-at z s i l
 
   -- checks 6, 3 and 6
   line-head : sound z ≡ true → headNumber image ≡ 0

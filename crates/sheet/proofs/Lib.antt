@@ -4,4 +4,5 @@ pub mod Fits
 pub mod Answer
 pub mod Image
 pub mod Entries
+pub mod Digits
 pub mod Reach

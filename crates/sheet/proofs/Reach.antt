@@ -29,7 +29,7 @@ first-cong f g (suc n) e d h q =
 
 -- ---- the lines
 module _ (z : Sizes) (s : List ℕ) (m : ℕ) (h : 23 * (total z + 1) < m) where
-  value-take : (i : ℕ) → i < total z → lineValue z (take m s) i ≡ lineValue z s i
+  pub value-take : (i : ℕ) → i < total z → lineValue z (take m s) i ≡ lineValue z s i
   unfolding lineValue
   value-take i l = ap (valueOf (dueAt z i)) (line-take s m (23 * (i + 1)) (omega arith))
 
@@ -58,7 +58,7 @@ reach-least (Sized z) = omega arith
 reach-least (Unsized n) = omega arith
 
 module _ (s : List ℕ) (m : ℕ) (h : reach s ≤ m) where
-  same-head : headOf (lineAt (take m s) 0) ≡ headOf (lineAt s 0)
+  pub same-head : headOf (lineAt (take m s) 0) ≡ headOf (lineAt s 0)
   unfolding reach
   same-head = head-take s m (le-trans (reach-least (headOf (lineAt s 0))) h)
 

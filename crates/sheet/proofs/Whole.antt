@@ -1,5 +1,5 @@
 -- The first fault, and all the words. Assumes nothing.
-use mathlib.Core.Path.{_≡_, refl, sym, _∙_, subst}
+use mathlib.Core.Path.{_≡_, refl, sym, ap, _∙_, subst}
 use mathlib.Core.Bool.{Bool, true, false}
 use mathlib.Core.List.{List, _++_}
 use mathlib.Core.Logic.{⊎-elim}
@@ -9,7 +9,7 @@ use lib.Ieee.{Float}
 use native.Mathlib.Nat.{eq-or-lt-of-le, le-of-suc-le-suc, not-suc-le-zero}
 use native.Mathlib.Omega.{arith}
 use lib.Dec.{ltb}
-use lib.ListN.{length, getD, take, replicate, length-append, List·getD-append}
+use lib.ListN.{length, getD, take, drop, length-append, length-drop, List·getD-append}
 use lib.Seq.{ext-getD, getD-take, length-take-le, getD-append-add}
 use borrow.Author.Tests.{eq-eqb, ne-eqb, le-leb, lt-leb, ltb-true, ltb-false}
 use Rattle.gradient.specs.Index.{tab}
@@ -41,12 +41,17 @@ module _ (f : ℕ → ℕ) where
 pub long : (z : Sizes) (s : List ℕ) → length (linesWords z s) ≡ 8 + total z
 long z s = omega (arith, length-append (sizeWords z) (tab (lineWord z s) (total z)), tab-length (lineWord z s) (total z))
 
-pub read-start : (z : Sizes) (s : List ℕ) (ls : List Float) → length ls ≡ 4 → ReadTo z s 0 (sizeWords z ++ replicate 537 (pos 0)) ls
-read-start z s ls h = record {
-  size = refl;
+-- the word of line i stands behind the sizes
+pub line-at : (z : Sizes) (s : List ℕ) (i : ℕ) → i < total z → getD (linesWords z s) (8 + i) (pos 0) ≡ lineWord z s i
+line-at z s i l = getD-append-add (sizeWords z) (tab (lineWord z s) (total z)) i (pos 0) ∙ tab-at (lineWord z s) (total z) i (pos 0) l
+
+-- the sizes in front of an array
+pub read-start : (z : Sizes) (s : List ℕ) (vs ws : List ℤ) (ls : List Float) → length vs ≡ 545 → ws ≡ sizeWords z ++ drop 8 vs → length ls ≡ 4 → ReadTo z s 0 ws ls
+read-start z s vs ws ls l e h = record {
+  size = ap length e ∙ omega (arith, length-append (sizeWords z) (drop 8 vs), length-drop 8 vs, l);
   room = h;
-  passed = λ k l. absurd (not-suc-le-zero l);
-  head = λ k l. List·getD-append (sizeWords z) (replicate 537 (pos 0)) (pos 0) k l;
+  passed = λ k m. absurd (not-suc-le-zero m);
+  head = λ k m. rw e (List·getD-append (sizeWords z) (drop 8 vs) (pos 0) k m);
   single = λ k l n. absurd (not-suc-le-zero l);
   paired = λ k l m. absurd (not-suc-le-zero m);
   kept = λ j l m. absurd (not-suc-le-zero m);
@@ -80,7 +85,7 @@ module _ (z : Sizes) (s : List ℕ) (ws : List ℤ) (ls : List Float) (o : Sound
           let h = ltb-false k 8 e in
           let j : 8 + (k - 8) ≡ k = omega arith in
           subst (λ (m : ℕ). getD ws m (pos 0) ≡ getD (linesWords z s) m (pos 0)) j
-          (each (k - 8) (omega arith) ∙ sym (tab-at (lineWord z s) (total z) (k - 8) (pos 0) (omega arith)) ∙ sym (getD-append-add (sizeWords z) (tab (lineWord z s) (total z)) (k - 8) (pos 0)))
+          (each (k - 8) (omega arith) ∙ sym (line-at z s (k - 8) (omega arith)))
 
 -- ---- the ways out of the loop
 abbrev pub Taken : Sizes → List ℕ → ℕ → ℕ → List ℤ → Type 0

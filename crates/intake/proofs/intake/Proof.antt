@@ -1,127 +1,105 @@
 -- `intake::intake` meets its contract: each way out is one law of Call.antt. Assumes nothing.
 use mathlib.Core.Path.{_≡_, refl, sym, _∙_}
-use Prim.Native.Nat.{ℕ, _*_, _≤_}
+use mathlib.Core.List.{List}
+use Prim.Native.Nat.{ℕ, _*_}
+use lib.IntN.{ℤ}
 use native.Mathlib.Omega.{arith}
-use lib.ListN.{length, length-take}
-use borrow.Author.Tests.{ne-eqb}
+use lib.ListN.{length, take}
 use borrow.Author.Needs.{needs}
-use Rattle.sheet.proofs.Answer.{read-image, read-long, room-for}
-use Rattle.intake.proofs.Call.{accepted-call, image-words, refused-lines, refused-room, refused-tables}
+use Rattle.sheet.specs.Reading.{Answered}
+use Rattle.sheet.specs.Sheet.{sheetNumber, sheetWords}
+use Rattle.sheet.proofs.Answer.{read-fit, read-image, read-long, room-for}
+use Rattle.intake.proofs.Call.{accepted-call, read-lines, refused-call, refused-room, unwritten}
 use Rattle.intake.proofs.intake.Statement.{statement}
 use Rattle.intake.proofs.intake.Tie as tie
 
--- the lines and the end passed
-module _ (d : tie.After-buffer) where
-  abbrev rs : tie.After-read-sheet
-  rs = d .before .before .before .before
+-- the design passed
+module _ (d : tie.Else1) where
+  abbrev rd : tie.After-read-design
+  rd = d .before
 
-  abbrev start : tie.Start
-  start = rs .before .before .before
+  abbrev sheet : List ℕ
+  sheet = rd .before .before .before .before .before .args .sheet .now
+
+  abbrev number : ℕ
+  number = rd .read-design .result .number
 
   abbrev count : ℕ
-  count = rs .read-sheet .result .count
+  count = rd .read-design .result .count
 
-  zero : rs .read-sheet .result .number ≡ 0
-  zero = d .before .before .before .if1 .left
+  abbrev words : List ℤ
+  words = rd .read-design .last .0
 
-  short : 4 * count ≤ length (d .before .blank-image .result)
-  short = omega (arith, rs .read-sheet .ensures .count-high, d .before .blank-image .ensures)
+  zero : number ≡ 0
+  zero = d .if1 .left
 
--- the tables passed too, and the buffer has the image's length
-module _ (d : tie.Else3) where
-  abbrev buffer : tie.After-buffer
-  buffer = d .before .before .before .before .before
+  passed : Answered (sheetNumber sheet) (sheetWords sheet) number count words
+  passed = read-lines sheet number count words (rd .read-design .ensures) zero
 
-read-sheet-requires : tie.Need-read-sheet-requires
-read-sheet-requires c κs = search needs
+  long : length (take count words) ≡ count
+  long = read-long sheet number count words passed zero
+
+-- and the buffer has the image's length
+module _ (d : tie.Else2) where
+  abbrev design : tie.Else1
+  design = d .before
+
+  exact : length (rd design .before .before .before .before .before .args .image .now) ≡ 4 * count design
+  exact = d .if2 .left
+
+blank-words-requires : tie.Need-blank-words-requires
+blank-words-requires c κs = search needs
+
+read-design-requires : tie.Need-read-design-requires
+read-design-requires c κs = search needs
 
 returns : tie.Need-returns
 returns c =
-    let r = c .before .read-sheet in
-    let s = c .before .before .before .before .args in
-    (refused-lines (s .sheet .now) _ _ _ (r .ensures) (length (s .image .now)) (c .if1 .taken), rw (ne-eqb _ 0 (c .if1 .taken)))
+    let s = c .before .before .before .before .before .before .args in
+    (refused-call (s .sheet .now) _ _ _ (c .before .read-design .ensures) (length (s .image .now)) (c .if1 .taken), unwritten _ _ _ (c .if1 .taken))
 
-blank-image-requires : tie.Need-blank-image-requires
-blank-image-requires c κs = search needs
-
-mul-size : tie.Need-mul-size
-mul-size c = search needs
-
-array-borrow-prefix-buffer : tie.Need-array-borrow-prefix-buffer
-array-borrow-prefix-buffer c = search needs
-
-slice-aggregate-own-tables : tie.Need-slice-aggregate-own-tables
-slice-aggregate-own-tables c = omega (arith, length-take (4 * count c) (c .before .blank-image .result), short c)
-
-array-share-prefix-words : tie.Need-array-share-prefix-words
-array-share-prefix-words c = room-for (start c .args .sheet .now) _ _ _ (rs c .read-sheet .ensures) (zero c)
-
-slice-aggregate-own-tables-2 : tie.Need-slice-aggregate-own-tables-2
-slice-aggregate-own-tables-2 c = let d = c .before in sym (read-long (start d .args .sheet .now) _ _ _ (rs d .read-sheet .ensures) (zero d))
-
-own-tables-requires : tie.Need-own-tables-requires
-own-tables-requires c κs =
-    let d = c .before in
-    let l = read-long (start d .args .sheet .now) _ _ _ (rs d .read-sheet .ensures) (zero d) in
-    (image-words (start d .args .sheet .now) _ _ _ (rs d .read-sheet .ensures) (zero d), omega (arith, length-take (4 * count d) (d .before .blank-image .result), short d, l))
+mul-if2 : tie.Need-mul-if2
+mul-if2 c = search needs
 
 returns-2 : tie.Need-returns-2
 returns-2 c =
-    let d = c .before .before .before .before in
-    let s = start d .args in
-    (refused-tables (s .sheet .now) _ _ _ (rs d .read-sheet .ensures) (zero d) _ (c .before .before .own-tables .ensures) (length (s .image .now)) (c .if2 .taken), rw (ne-eqb _ 0 (c .if2 .taken)))
+    let d = c .before in
+    (refused-room (sheet d) _ _ _ (rd d .read-design .ensures) (zero d) _ (c .if2 .taken), refl)
 
-returns-3 : tie.Need-returns-3
-returns-3 c =
-    let d = c .before .before .before .before .before in
-    let s = start d .args in
-    (refused-room (s .sheet .now) _ _ _ (rs d .read-sheet .ensures) (zero d) _ (c .before .before .before .own-tables .ensures) (length (s .image .now)) (c .before .if2 .left) (c .if3 .taken), refl)
-
-array-share-prefix-words-2 : tie.Need-array-share-prefix-words-2
-array-share-prefix-words-2 c =
-    let d = buffer (c .before) in
-    room-for (start d .args .sheet .now) _ _ _ (rs d .read-sheet .ensures) (zero d)
+array-share-prefix-words : tie.Need-array-share-prefix-words
+array-share-prefix-words c = let d = design (c .before) in room-for (sheet d) _ _ _ (passed d) (zero d)
 
 slice-aggregate-put-words : tie.Need-slice-aggregate-put-words
-slice-aggregate-put-words c =
-    let d = buffer (c .before .before) in
-    sym (read-long (start d .args .sheet .now) _ _ _ (rs d .read-sheet .ensures) (zero d))
+slice-aggregate-put-words c = sym (long (design (c .before .before)))
 
 put-words-requires : tie.Need-put-words-requires
 put-words-requires c κs =
-    let d = buffer (c .before .before) in
-    let l = read-long (start d .args .sheet .now) _ _ _ (rs d .read-sheet .ensures) (zero d) in
-    (omega (arith, l, c .before .before .if3 .left), image-words (start d .args .sheet .now) _ _ _ (rs d .read-sheet .ensures) (zero d) .fit)
+    let e = c .before .before in
+    let d = design e in
+    (omega (arith, exact e, long d), read-fit (sheet d) _ _ _ (passed d) (zero d))
 
 same-length : tie.Need-same-length
 same-length c = search needs
 
-returns-4 : tie.Need-returns-4
-returns-4 c =
-    let f = c .before .before .before .before .before in
-    let d = buffer f in
-    let s = start d .args in (
-      accepted-call (s .sheet .now) _ _ _ (rs d .read-sheet .ensures) (zero d) _ (f .before .before .before .own-tables .ensures) (length (s .image .now)) (f .before .if2 .left) (f .if3 .left),
-      c .before .before .put-words .ensures ∙ read-image (s .sheet .now) _ _ _ (rs d .read-sheet .ensures) (zero d),
+returns-3 : tie.Need-returns-3
+returns-3 c =
+    let e = c .before .before .before .before .before in
+    let d = design e in (
+      accepted-call (sheet d) _ _ _ (rd d .read-design .ensures) (zero d) _ (exact e),
+      c .before .before .put-words .ensures ∙ read-image (sheet d) _ _ _ (passed d) (zero d),
     )
 
 pub intake-spec : {M : Type 1} → statement M
 intake-spec =
     tie.close
     (tie.spec
-    read-sheet-requires
+    blank-words-requires
+    read-design-requires
     returns
-    blank-image-requires
-    mul-size
-    array-borrow-prefix-buffer
-    slice-aggregate-own-tables
-    array-share-prefix-words
-    slice-aggregate-own-tables-2
-    own-tables-requires
+    mul-if2
     returns-2
-    returns-3
-    array-share-prefix-words-2
+    array-share-prefix-words
     slice-aggregate-put-words
     put-words-requires
     same-length
-    returns-4)
+    returns-3)
