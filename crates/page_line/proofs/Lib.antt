@@ -1,0 +1,4 @@
+-- The laws that other crates cite.
+pub mod Written
+pub mod Kept
+pub mod Fields
