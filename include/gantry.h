@@ -24,15 +24,19 @@ extern "C" {
 #define GANTRY_MAX_COMMANDS 16
 #define GANTRY_MAX_STATES 12
 #define GANTRY_MAX_TARGETS 4
-#define GANTRY_IMAGE_WORDS(nu, n, nx, nr) \
-    (8 + (n) * (n) + (n) * (nx) + 2 * (nu) + 1 + (nx) + (n) * (nr) + (nr))
+/* The design numbers of a sheet: one for each line after line 01, one for each word of the image after the first eight. */
+#define GANTRY_DESIGN_NUMBERS(nu, n, nx, nr) \
+    ((n) * (n) + (n) * (nx) + 2 * (nu) + 1 + (nx) + (n) * (nr) + (nr))
+#define GANTRY_IMAGE_WORDS(nu, n, nx, nr) (8 + GANTRY_DESIGN_NUMBERS(nu, n, nx, nr))
 #define GANTRY_IMAGE_BYTES(nu, n, nx, nr) (4 * (size_t)GANTRY_IMAGE_WORDS(nu, n, nx, nr))
+#define GANTRY_PAGE_BYTES(nu, n, nx, nr) (44 * (size_t)GANTRY_DESIGN_NUMBERS(nu, n, nx, nr))
 #define GANTRY_STATE_BYTES(nx) (4 * (size_t)(nx))
 #define GANTRY_TARGET_BYTES(nr) (4 * (size_t)(nr))
 #define GANTRY_START_BYTES(n) (4 * (size_t)(n))
 #define GANTRY_ANSWER_BYTES(n) (8 * (size_t)(n))
-/* Large enough for every image: nu 4, n 16, nx 12, nr 4. */
+/* Large enough for every image and every page: nu 4, n 16, nx 12, nr 4. */
 #define GANTRY_MAX_IMAGE_BYTES GANTRY_IMAGE_BYTES(4, GANTRY_MAX_COMMANDS, GANTRY_MAX_STATES, GANTRY_MAX_TARGETS)
+#define GANTRY_MAX_PAGE_BYTES GANTRY_PAGE_BYTES(4, GANTRY_MAX_COMMANDS, GANTRY_MAX_STATES, GANTRY_MAX_TARGETS)
 
 /* The numbers. */
 enum gantry_number {
@@ -59,6 +63,13 @@ enum gantry_number {
  * sheet's first line: GANTRY_IMAGE_BYTES. Numbers: 0, 1 to 5, 7 to 12, 15.
  * An image written here is accepted by the calls below. */
 uint32_t gantry_intake(const uint8_t *sheet, size_t sheet_len, uint8_t *image, size_t image_len);
+
+/* Reads a design sheet and writes its design page, which shows what rounding did: a line of 43 characters and byte 10 for
+ * each design number, in sheet order. page_len must be the page's exact length (15): GANTRY_PAGE_BYTES. Numbers: those of
+ * gantry_intake, which accepts the same sheets. A line is kind, row and column, given double, kept double, K or M:
+ *     05 0000 3FA0000000000000 0000000000000000 M
+ * The kept double is exactly that of the image's word; K stands where its value is the given one, M where it moved. */
+uint32_t gantry_page(const uint8_t *sheet, size_t sheet_len, uint8_t *page, size_t page_len);
 
 /* Writes, for each command, the value within its limits nearest zero: 4n bytes. Numbers: 0, 3, 5 to 12, 15.
  * What it writes is a start that gantry_solve accepts. */

@@ -6,6 +6,7 @@ ghost use lib.ListN.{length};
 ghost use Rattle.interface.specs.Calls.{coldNumber, coldAnswer, solveNumber, solveAnswer};
 ghost use Rattle.interface.specs.Demand.{Guarantee};
 ghost use Rattle.intake.specs.Intake.{intakeNumber, intakeImage};
+ghost use Rattle.design_page.specs.Page.{pageNumber, sheetPage};
 
 // Reads a design sheet and writes its image.
 #[no_mangle]
@@ -14,6 +15,15 @@ pub extern "C" fn gantry_intake(sheet: &[u8], image: &mut [u8]) -> u32
     ensures bytes { λ r. ⌜ now (image .exit) ≡ cond (eqb r 0) (intakeImage (now (sheet .entry))) (now (image .entry)) ⌝ }
 {
     intake::intake(sheet, image)
+}
+
+// Reads a design sheet and writes its design page.
+#[no_mangle]
+pub extern "C" fn gantry_page(sheet: &[u8], page: &mut [u8]) -> u32
+    ensures number { λ r. ⌜ r ≡ pageNumber (now (sheet .entry)) (length (now (page .entry))) ⌝ }
+    ensures bytes { λ r. ⌜ now (page .exit) ≡ cond (eqb r 0) (sheetPage (now (sheet .entry))) (now (page .entry)) ⌝ }
+{
+    design_page::write_page(sheet, page)
 }
 
 // Writes the start nearest zero.

@@ -1,0 +1,2 @@
+-- What the contracts and the laws of design_page cite.
+pub mod Page
