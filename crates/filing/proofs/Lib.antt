@@ -1,0 +1,3 @@
+-- The laws.
+pub mod Says
+pub mod Filed

@@ -1,0 +1,2 @@
+-- What the laws of filing state.
+pub mod Laws
