@@ -1,10 +1,12 @@
 -- The table of starred cases, by one computed check. Assumes nothing.
 use mathlib.Core.Path.{_≡_, refl}
 use mathlib.Core.Bool.{true}
-use lib.Ieee.{ofBits}
+use lib.Ieee.{ofBits, eq, size, round, toBits}
 use Rattle.integer.specs.Round.{floor, ceil, clamp}
+use Rattle.word.specs.Buffer.{joined}
 use Rattle.word.specs.Digits.{numberBE, digitsBE}
 use Rattle.word.specs.Word.{natBE, bytesBE, wordsAt, wordsOut}
+use Rattle.hex.specs.Hex.{isHex, digitOf, hexes, hexAt, digitByte, hexDigits}
 use Rattle.double.specs.Double.{scalable, rounded, accepted}
 use Rattle.gradient.specs.Problem.{F, coldStart}
 use Rattle.gradient.specs.Scheme.{linear, unclamped, nextZ, nextY, step, iterate}
@@ -15,8 +17,15 @@ use Rattle.image.specs.Layout.{sizesOf, lowerAt, upperAt, momentumAt, boundAt, 
 use Rattle.image.specs.Checks.{headNumber, bodyNumber}
 use Rattle.interface.specs.Tables.{symmetryTest, othersAt, marginAt, totalAt, leastMargin, largestTotal, momentumRange, momentumRatio, pointTest, rowTest, tablesNumber, imageNumber}
 use Rattle.interface.specs.Calls.{valuesOf, inputsOf, startOf, coldAnswer, valuesWithin, callNumber, solveNumber, commandsAfter, boundsAfter}
+use Rattle.line.specs.Line.{lineAt}
+use Rattle.frame.specs.Frame.{dueAt, headOf, total, wordOf}
+use Rattle.lines.specs.Lines.{lineFault, lineValue, lineWord}
+use Rattle.sheet.specs.Sheet.{sheetImage, sheetNumber, sheetWords}
+use Rattle.intake.specs.Intake.{designNumber}
+use Rattle.page_line.specs.Effect.{isKept, effectOf, lineText}
+use Rattle.design_page.specs.Page.{designCount, pageLine, pageNumber, sheetPage}
 use Rattle.cases.specs.Cases.{holds, table, S, two, following}
 
 pub starred : every holds table ≡ true
-unfolding floor ceil clamp numberBE digitsBE natBE bytesBE wordsAt wordsOut scalable rounded accepted ofBits F coldStart linear unclamped nextZ nextY step iterate magnitude width rangeP rangeY rangeA rangeB slack weight nextE nextQ errorStep errorAfter every every2 startWithin sound sizesOf lowerAt upperAt momentumAt boundAt entryOf commandAt problemAt problemOf headNumber bodyNumber symmetryTest othersAt marginAt totalAt leastMargin largestTotal momentumRange momentumRatio pointTest rowTest tablesNumber imageNumber valuesOf inputsOf startOf coldAnswer valuesWithin callNumber solveNumber commandsAfter boundsAfter holds table S two following
+unfolding floor ceil clamp numberBE digitsBE natBE bytesBE wordsAt wordsOut scalable rounded accepted ofBits F coldStart linear unclamped nextZ nextY step iterate magnitude width rangeP rangeY rangeA rangeB slack weight nextE nextQ errorStep errorAfter every every2 startWithin sound sizesOf lowerAt upperAt momentumAt boundAt entryOf commandAt problemAt problemOf headNumber bodyNumber symmetryTest othersAt marginAt totalAt leastMargin largestTotal momentumRange momentumRatio pointTest rowTest tablesNumber imageNumber valuesOf inputsOf startOf coldAnswer valuesWithin callNumber solveNumber commandsAfter boundsAfter eq size round toBits joined isHex digitOf hexes hexAt digitByte hexDigits lineAt dueAt headOf total wordOf lineFault lineValue lineWord sheetImage sheetNumber sheetWords designNumber isKept effectOf lineText designCount pageLine pageNumber sheetPage holds table S two following
 starred = refl

@@ -2,15 +2,20 @@
 -- line is one case; `holds` says what is computed of it, over the definitions that the calls' promises cite. Assumes nothing.
 use mathlib.Core.Bool.{Bool, not, _&&_}
 use mathlib.Core.List.{List, [], _∷_, _++_, map}
-use Prim.Native.Nat.{ℕ}
+use Prim.Native.Nat.{ℕ, _*_}
+use Prim.Native.String.{String}
 use lib.Dec.{eqb}
 use lib.IntN.{ℤ, pos, negsuc}
 use lib.Ieee.{binary64, ofBits}
+use lib.ListN.{take, drop}
+use Rattle.word.specs.Ascii.{ascii}
 use Rattle.word.specs.Word.{wordsOut}
 use Rattle.double.specs.Double.{conversionNumber, rounded, roundUp, roundDown}
 use Rattle.gradient.specs.Demand.{every2}
 use Rattle.interface.specs.Tables.{eqZ, imageNumber}
 use Rattle.interface.specs.Calls.{coldAnswer, solveNumber, commandsAfter, boundsAfter}
+use Rattle.sheet.specs.Sample.{changed, lines, text}
+use Rattle.design_page.specs.Page.{pageNumber, sheetPage}
 
 -- a case, and what the document says of it
 pub data Case : Type 0 where
@@ -24,6 +29,10 @@ pub data Case : Type 0 where
   answers : List ℕ → ℤ → List ℤ → ℕ → Case
   -- a double (its bits) becomes a word by a rule
   converts : (ℤ → ℕ → ℤ) → ℕ → ℤ → Case
+  -- line i of a sheet's page has a text
+  prints : List ℕ → ℕ → String → Case
+  -- the call for a sheet's page, with a buffer of so many bytes, has a number
+  pages : List ℕ → ℕ → ℕ → Case
 
 unfoldable pub holds : Case → Bool
 holds (solves image x t s z e) =
@@ -32,6 +41,8 @@ holds (numbers image n) = eqb (imageNumber image) n
 holds (passes image n) = not (eqb (imageNumber image) n)
 holds (answers image x t n) = eqb (solveNumber image (wordsOut (x ∷ [])) (wordsOut t) (coldAnswer image) 8) n
 holds (converts rule bits z) = eqb (conversionNumber rule 4 8 (ofBits binary64 bits)) 0 && eqZ (rounded rule 4 (ofBits binary64 bits)) z
+holds (prints sheet i line) = every2 eqb (take 44 (drop (44 * i) (sheetPage sheet))) (ascii line ++ 10 ∷ [])
+holds (pages sheet room n) = eqb (pageNumber sheet room) n
 
 -- ---- the images: "all have b 4, W 8"
 -- S with a step factor, limits −l and l, a state limit
@@ -97,4 +108,15 @@ table =
     ∷ answers (following 10) (pos 10) (pos 0 ∷ pos 0 ∷ []) 16
     ∷ answers (S 0 20 10) (pos 10) (pos 0 ∷ []) 16
     ∷ answers (S 0 20 10) (pos 11) (pos 0 ∷ []) 13
+    -- request 2: S with a high limit of 0.03125, with minus zero as β, and its own low limit; −0.03125 in Φ, and 9.6 counts as state limit
+    ∷ prints (changed 4 0x0500003FA0000000000000) 3 "05 0000 3FA0000000000000 0000000000000000 M"
+    ∷ prints (changed 5 0x0600008000000000000000) 4 "06 0000 8000000000000000 0000000000000000 K"
+    ∷ prints (text lines) 2 "04 0000 BFF4000000000000 BFF4000000000000 K"
+    ∷ prints (changed 2 0x030000BFA0000000000000) 1 "03 0000 BFA0000000000000 BFB0000000000000 M"
+    ∷ prints (changed 6 0x0700003FE3333333333333) 5 "07 0000 3FE3333333333333 3FE4000000000000 M"
+    -- six lines of 44 bytes, "else 15", after 12, which a state limit of 118 counts has; the empty sheet is 4
+    ∷ pages (text lines) 264 0
+    ∷ pages (text lines) 263 15
+    ∷ pages (changed 6 0x070000401D800000000000) 263 12
+    ∷ pages [] 0 4
     ∷ []
