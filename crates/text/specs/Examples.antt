@@ -1,6 +1,7 @@
 -- Worked examples of document 01, by computation. Assumes nothing.
 use mathlib.Core.Path.{_≡_, refl}
 use mathlib.Core.List.{[], _∷_}
+use Rattle.word.specs.Buffer.{joined}
 use Rattle.word.specs.Digits.{numberBE, digitsBE}
 use Rattle.word.specs.Word.{natBE}
 use Rattle.hex.specs.Hex.{digitByte, hexDigits}
@@ -9,7 +10,7 @@ use Rattle.text.specs.Text.{line, lines, refusal}
 -- "prints the single line FFFFFFEE 00000003"
 sample : lines 1 (0xFF ∷ 0xFF ∷ 0xFF ∷ 0xEE ∷ 0 ∷ 0 ∷ 0 ∷ 3 ∷ []) 1
     ≡ 70 ∷ 70 ∷ 70 ∷ 70 ∷ 70 ∷ 70 ∷ 69 ∷ 69 ∷ 32 ∷ 48 ∷ 48 ∷ 48 ∷ 48 ∷ 48 ∷ 48 ∷ 48 ∷ 51 ∷ 10 ∷ []
-unfolding lines line natBE numberBE hexDigits digitsBE digitByte
+unfolding joined lines line natBE numberBE hexDigits digitsBE digitByte
 sample = refl
 
 -- "refused 04" and "refused 13"

@@ -1,10 +1,11 @@
 -- Document 01, "The label program": the lines that are printed. Definitions only.
-use Prim.Native.Nat.{ℕ, zero, suc, _+_, _*_, _≤_}
+use Prim.Native.Nat.{ℕ, _+_, _*_, _≤_}
 use mathlib.Core.Path.{_≡_}
 use mathlib.Core.Bool.{cond}
 use mathlib.Core.List.{List, [], _∷_, _++_}
 use lib.Dec.{eqb}
 use lib.ListN.{length, take}
+use Rattle.word.specs.Buffer.{joined}
 use Rattle.word.specs.Digits.{digitsBE}
 use Rattle.word.specs.Word.{natAt}
 use Rattle.hex.specs.Hex.{hexDigits}
@@ -18,8 +19,7 @@ line command bound = hexDigits 8 command ++ 32 ∷ [] ++ hexDigits 8 bound ++ 10
 
 -- "one line a command", for the first k of the n commands of an answer, whose bounds follow them
 unfoldable pub lines : ℕ → List ℕ → ℕ → List ℕ
-lines n answer zero = []
-lines n answer (suc k) = lines n answer k ++ line (natAt answer (4 * k)) (natAt answer (4 * (n + k)))
+lines n answer k = joined (λ (i : ℕ). line (natAt answer (4 * i)) (natAt answer (4 * (n + i)))) k
 
 -- 'the line "refused " and two decimal digits'
 unfoldable pub refusal : ℕ → List ℕ

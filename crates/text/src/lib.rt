@@ -1,4 +1,4 @@
-// The lines that the label program prints.
+// The lines that the label program prints, and the line of a refusal.
 ghost use mathlib.Core.Path.{_≡_};
 ghost use Prim.Native.Nat.{_+_, _*_, _≤_};
 ghost use lib.ListN.{length};
@@ -47,21 +47,29 @@ pub fn lines_of(answer: &[u8], n: usize) -> Text
     }
 }
 
-// The line of a refusal.
+// The line of a refusal, in front of a buffer.
+pub fn put_refusal(out: &mut [u8], number: u32)
+    requires { ⌜ 11 ≤ length (now out) ⌝ }
+    ensures { λ _. ⌜ now (out .exit) ≡ putAt (now (out .entry)) 0 (refusal number) ⌝ }
+{
+    out[0] = b'r';
+    out[1] = b'e';
+    out[2] = b'f';
+    out[3] = b'u';
+    out[4] = b's';
+    out[5] = b'e';
+    out[6] = b'd';
+    out[7] = b' ';
+    out[8] = (48 + number / 10 % 10) as u8;
+    out[9] = (48 + number % 10) as u8;
+    out[10] = b'\n';
+}
+
+// The same as a text.
 pub fn refusal_of(number: u32) -> Text
     ensures { λ r. ⌜ Holds (refusal number) r ⌝ }
 {
     let mut bytes = blank_text();
-    bytes[0] = b'r';
-    bytes[1] = b'e';
-    bytes[2] = b'f';
-    bytes[3] = b'u';
-    bytes[4] = b's';
-    bytes[5] = b'e';
-    bytes[6] = b'd';
-    bytes[7] = b' ';
-    bytes[8] = (48 + number / 10 % 10) as u8;
-    bytes[9] = (48 + number % 10) as u8;
-    bytes[10] = b'\n';
+    put_refusal(&mut bytes, number);
     Text { bytes, length: 11 }
 }

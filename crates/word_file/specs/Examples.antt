@@ -3,6 +3,7 @@ use mathlib.Core.Path.{_≡_, refl}
 use mathlib.Core.Bool.{true, false}
 use mathlib.Core.List.{List, [], _∷_}
 use Prim.Native.Nat.{ℕ}
+use Rattle.word.specs.Buffer.{joined}
 use Rattle.word.specs.Digits.{numberBE, digitsBE}
 use Rattle.word.specs.Word.{bytesBE}
 use Rattle.hex.specs.Hex.{isHex, digitOf, hexes, hexAt}
@@ -17,7 +18,7 @@ unfolding isWordFile hexes isHex
 one = refl
 
 one-words : fileWords 1 state ≡ 0 ∷ 0 ∷ 0 ∷ 10 ∷ []
-unfolding fileWords bytesBE digitsBE hexAt numberBE digitOf isHex
+unfolding joined fileWords bytesBE digitsBE hexAt numberBE digitOf isHex
 one-words = refl
 
 -- of another count, and without its byte 10

@@ -1,9 +1,10 @@
 -- Document 01, "The label program": what state.hex says, and so a file "formed as state.hex" (document 02, request 1). Definitions only.
-use Prim.Native.Nat.{ℕ, zero, suc, _+_, _*_}
+use Prim.Native.Nat.{ℕ, _+_, _*_}
 use mathlib.Core.Bool.{Bool, _&&_}
-use mathlib.Core.List.{List, [], _++_}
+use mathlib.Core.List.{List}
 use lib.Dec.{eqb}
 use lib.ListN.{length, getD}
+use Rattle.word.specs.Buffer.{joined}
 use Rattle.word.specs.Word.{bytesOf}
 use Rattle.hex.specs.Hex.{hexes, hexAt}
 
@@ -13,5 +14,4 @@ isWordFile count file = eqb (length file) (8 * count + 1) && (eqb (getD file (8 
 
 -- its words, "big-endian" as a solve takes them
 unfoldable pub fileWords : ℕ → List ℕ → List ℕ
-fileWords zero file = []
-fileWords (suc k) file = fileWords k file ++ bytesOf (hexAt 8 file (8 * k))
+fileWords count file = joined (λ (i : ℕ). bytesOf (hexAt 8 file (8 * i))) count

@@ -4,7 +4,7 @@ use native.Mathlib.Numerals.{add-one}
 use mathlib.Core.Path.{_≡_, refl, sym, ap, subst, _∙_}
 use Prim.Native.Nat.{ℕ, _+_, _*_, _-_, _≤_}
 use lib.ListN.{length, take}
-use Rattle.word.specs.Buffer.{putAt}
+use Rattle.word.specs.Buffer.{joined, putAt}
 use Rattle.word.specs.Word.{natAt}
 use Rattle.word.proofs.Buffer.{front-put}
 use Rattle.text.specs.Text.{line, lines}
@@ -22,7 +22,7 @@ blank-text-requires : tie.Need-blank-text-requires Inv-loop μ-loop
 blank-text-requires c κs = tt
 
 loop-holds : tie.Need-loop-holds Inv-loop μ-loop
-unfolding lines
+unfolding joined lines
 loop-holds c = (omega arith, (c .blank-text .ensures, refl))
 
 mul-nat-at : tie.Need-mul-nat-at Inv-loop μ-loop
@@ -56,7 +56,7 @@ loop-less : tie.Need-loop-less Inv-loop μ-loop
 loop-less c = omega arith
 
 loop-again : tie.Need-loop-again Inv-loop μ-loop
-unfolding lines
+unfolding joined lines
 loop-again c =
     let a = c .before .before .before .before .before .before .before .before .before .args in
     let l = c .before .before .before .before .before .before .loop in

@@ -4,7 +4,7 @@ use native.Mathlib.Numerals.{add-one}
 use mathlib.Core.Path.{_≡_, refl, sym, ap, subst, _∙_}
 use Prim.Native.Nat.{ℕ, _+_, _*_, _-_, _≤_}
 use lib.ListN.{length, take}
-use Rattle.word.specs.Buffer.{putAt}
+use Rattle.word.specs.Buffer.{joined, putAt}
 use Rattle.word.specs.Word.{bytesOf}
 use Rattle.word.proofs.Words.{length-bytes}
 use Rattle.word.proofs.Buffer.{front-put}
@@ -23,7 +23,7 @@ blank-words-requires : tie.Need-blank-words-requires Inv-loop μ-loop
 blank-words-requires c κs = tt
 
 loop-holds : tie.Need-loop-holds Inv-loop μ-loop
-unfolding fileWords
+unfolding joined fileWords
 loop-holds c = (omega arith, (c .blank-words .ensures, refl))
 
 slice-aggregate-put-nat : tie.Need-slice-aggregate-put-nat Inv-loop μ-loop
@@ -48,7 +48,7 @@ loop-less : tie.Need-loop-less Inv-loop μ-loop
 loop-less c = omega arith
 
 loop-again : tie.Need-loop-again Inv-loop μ-loop
-unfolding fileWords
+unfolding joined fileWords
 loop-again c =
     let file = c .before .before .before .before .before .before .before .before .args .file .now in
     let l = c .before .before .before .before .before .loop in
