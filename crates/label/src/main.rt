@@ -5,14 +5,8 @@ ghost use mathlib.Core.Path.{_≡_};
 ghost use lib.ListN.{length};
 ghost use Rattle.io.specs.Counts.{Counts};
 
-// Room for one byte more than the largest sheet, state file and target file: `Enough` of label_text says why no more
-// has to be read.
-fn drive_room() -> [u8; 12375]
-    ensures { λ r. ⌜ 12375 ≡ length r ⌝ }
-{
-    [0; 12375]
-}
-
+// Room for one byte more than the largest state file and target file: `Enough` of label_text says why no more has to be
+// read.
 fn state_room() -> [u8; 98]
     ensures { λ r. ⌜ 98 ≡ length r ⌝ }
 {
@@ -25,19 +19,6 @@ fn target_room() -> [u8; 34]
     [0; 34]
 }
 
-// Reads a file until the buffer is full or the file ends. A file that can't be opened counts as empty.
-fn read_file(path: &[u8], buffer: &mut [u8]) -> usize
-    ensures { λ r. ⌜ Counts r (now (buffer .exit)) ⌝ }
-{
-    let file = os::open_read(path);
-    if file < 0 {
-        return 0;
-    }
-    let n = io::read_full(file, buffer);
-    libc::close(file);
-    n
-}
-
 // Reads target.hex when nr of the sheet is above 0. Else it need not be opened: `Target` of label_text says why.
 fn read_target(drive: &[u8], buffer: &mut [u8]) -> usize
     ensures { λ r. ⌜ Counts r (now (buffer .exit)) ⌝ }
@@ -45,14 +26,14 @@ fn read_target(drive: &[u8], buffer: &mut [u8]) -> usize
     if label_text::target_count(drive) == 0 {
         return 0;
     }
-    read_file(b"target.hex", buffer)
+    file::read_file(b"target.hex", buffer)
 }
 
 fn main() {
-    let mut drive = drive_room();
-    let drive_size = read_file(b"drive.hex", &mut drive);
+    let mut drive = file::drive_room();
+    let drive_size = file::read_file(b"drive.hex", &mut drive);
     let mut state = state_room();
-    let state_size = read_file(b"state.hex", &mut state);
+    let state_size = file::read_file(b"state.hex", &mut state);
     let mut target = target_room();
     let target_size = read_target(&drive[..drive_size], &mut target);
     let text = label_text::label(

@@ -1,0 +1,2 @@
+-- What the contracts and the laws of page_text cite.
+pub mod Text
