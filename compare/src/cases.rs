@@ -1,5 +1,5 @@
 //! Document 01's cases at the edges as one table, the starred ones among them, and a few of our own behind them: edges
-//! that it implies, and those of request 1. The figures of ours are worked out by hand from the papers.
+//! that it implies, and those of requests 1 and 2. The figures of ours are worked out by hand from the papers.
 
 use crate::double::of_count;
 use crate::draft::{Draft, text};
@@ -8,7 +8,8 @@ use crate::harness::Harness;
 use crate::image::{
     COST, GAIN, HEADER_WORDS, HIGH, LOW, MOMENTUM, Number, STATE_LIMIT, Sizes, TARGET_GAIN, TARGET_LIMIT, bytes, words,
 };
-use crate::label::Folder;
+use crate::page::{self, PAGE_LINE};
+use crate::process::{Folder, Table};
 use crate::sheet::LINE;
 
 /// S, as document 01 prints it.
@@ -22,6 +23,19 @@ pub const SAMPLE: &str = "\
 0700003FE4000000000000
 ";
 
+/// Its page: 8, 16, −20, 20, 0 and 10 counts, all of them whole.
+const PAGE_OF_SAMPLE: &str = "\
+02 0000 3FE0000000000000 3FE0000000000000 K
+03 0000 3FF0000000000000 3FF0000000000000 K
+04 0000 BFF4000000000000 BFF4000000000000 K
+05 0000 3FF4000000000000 3FF4000000000000 K
+06 0000 0000000000000000 0000000000000000 K
+07 0000 3FE4000000000000 3FE4000000000000 K
+";
+
+/// The line that request 2 prints: half a count.
+const PRINTED: &str = "05 0000 3FA0000000000000 0000000000000000 M";
+
 enum Expect {
     Refused(Number),
     Accepted,
@@ -29,6 +43,10 @@ enum Expect {
     Answer(Vec<i64>),
     /// The first words of a section of the sheet's image.
     Words(u8, Vec<i64>),
+    /// The sheet's page.
+    Page(String),
+    /// Lengths of a page's buffer that are all 15.
+    NoPage(Vec<usize>),
 }
 use Expect::*;
 
@@ -155,6 +173,9 @@ pub fn table() -> Vec<Case> {
     table.extend(followed_targets());
     table.extend(refused_targets());
     table.extend(target_lines());
+    table.extend(pages_of_s());
+    table.extend(other_pages());
+    table.extend(no_pages());
     table
 }
 
@@ -311,8 +332,242 @@ fn target_lines() -> Vec<Case> {
     ]
 }
 
+/// A sheet by its line 01 and its page, which says what was given.
+fn page_case(name: &str, first_line: &str, page: &str) -> Case {
+    let lines = |kind: &str| page.lines().filter(|line| line.starts_with(kind)).count();
+    let zeros = |length: usize| vec![0; 4 * length];
+    Case {
+        name: name.to_string(),
+        sheet: page::sheet_of(format!("{first_line}\n").as_bytes(), page.as_bytes(), page::GIVEN),
+        image_len: 4 * (HEADER_WORDS + lines("")),
+        image: None,
+        state: zeros(lines("07")),
+        target: zeros(lines("09")),
+        start: None,
+        spare: 0,
+        expect: Page(page.to_string()),
+    }
+}
+
+/// The page of S with some other lines.
+fn page_with(lines: &[&str]) -> String {
+    let line = |old: &str| lines.iter().find(|line| line[..7] == old[..7]).map_or(old, |line| line).to_string() + "\n";
+    PAGE_OF_SAMPLE.lines().map(line).collect()
+}
+
+/// Request 2. A count is 1/16, 3FB0000000000000, and top 127.
+fn pages_of_s() -> Vec<Case> {
+    let s = |name: &str, lines: &[&str]| page_case(name, &SAMPLE[..LINE - 1], &page_with(lines));
+    vec![
+        s("the page of S", &[]),
+        s("the line that request 2 prints", &[PRINTED]),
+        s("half a count as low limit", &["04 0000 3FA0000000000000 3FB0000000000000 M"]),
+        s("half a count below zero, down", &["03 0000 BFA0000000000000 BFB0000000000000 M"]),
+        // Rounded up to zero, which has no sign.
+        s("half a count below zero, up", &["04 0000 BFA0000000000000 0000000000000000 M"]),
+        s("a state limit rounded up to zero", &["07 0000 BFA0000000000000 0000000000000000 M"]),
+        s("a count below zero", &["03 0000 BFB0000000000000 BFB0000000000000 K"]),
+        // 8.5, 16.5, −20.5, 20.5, 0.5 and 9.5 counts.
+        s(
+            "half a count in every line",
+            &[
+                "02 0000 3FE1000000000000 3FE0000000000000 M",
+                "03 0000 3FF0800000000000 3FF0000000000000 M",
+                "04 0000 BFF4800000000000 BFF4000000000000 M",
+                "05 0000 3FF4800000000000 3FF4000000000000 M",
+                "06 0000 3FA0000000000000 3FB0000000000000 M",
+                "07 0000 3FE3000000000000 3FE4000000000000 M",
+            ],
+        ),
+        s("minus zero", &["03 0000 8000000000000000 0000000000000000 K"]),
+        s(
+            "minus zero in five lines",
+            &[
+                "03 0000 8000000000000000 0000000000000000 K",
+                "04 0000 8000000000000000 0000000000000000 K",
+                "05 0000 8000000000000000 0000000000000000 K",
+                "06 0000 8000000000000000 0000000000000000 K",
+                "07 0000 8000000000000000 0000000000000000 K",
+            ],
+        ),
+        // The first and the last below the normal doubles.
+        s(
+            "subnormal doubles",
+            &[
+                "03 0000 0000000000000001 0000000000000000 M",
+                "04 0000 8000000000000001 0000000000000000 M",
+                "05 0000 000FFFFFFFFFFFFF 0000000000000000 M",
+                "06 0000 0000000000000001 3FB0000000000000 M",
+                "07 0000 8000000000000001 0000000000000000 M",
+            ],
+        ),
+        s(
+            "subnormal doubles on the other side",
+            &[
+                "03 0000 8000000000000001 BFB0000000000000 M",
+                "05 0000 8000000000000001 BFB0000000000000 M",
+                "06 0000 8000000000000001 0000000000000000 M",
+                "07 0000 000FFFFFFFFFFFFF 3FB0000000000000 M",
+            ],
+        ),
+        s("the last subnormal as low limit", &["04 0000 800FFFFFFFFFFFFF 0000000000000000 M"]),
+        s("the first subnormal as low limit", &["04 0000 0000000000000001 3FB0000000000000 M"]),
+        // The last bit of 8, 16, −20, 20 and 10 counts: down to 16 and 19, up to −20 and 11.
+        s(
+            "moved by the last bit",
+            &[
+                "02 0000 3FE0000000000001 3FE0000000000000 M",
+                "03 0000 3FF0000000000001 3FF0000000000000 M",
+                "04 0000 BFF4000000000001 BFF4000000000000 M",
+                "05 0000 3FF3FFFFFFFFFFFF 3FF3000000000000 M",
+                "07 0000 3FE4000000000001 3FE6000000000000 M",
+            ],
+        ),
+        // 127 and 127.5 counts; B is 79.375, or 80, beside A = 10.
+        s("top", &["03 0000 401FC00000000000 401FC00000000000 K"]),
+        s("minus top", &["03 0000 C01FC00000000000 C01FC00000000000 K"]),
+        s("half a count above top", &["03 0000 401FE00000000000 401FC00000000000 M"]),
+        // 126.5 counts.
+        s(
+            "a limit moved to top",
+            &["03 0000 0000000000000000 0000000000000000 K", "07 0000 401FA00000000000 401FC00000000000 M"],
+        ),
+    ]
+}
+
+/// Two motors: H is symmetric once it is rounded, and the limits are 20 and 5 counts.
+const PAGE_OF_TWO_MOTORS: &str = "\
+02 0000 3FE0000000000000 3FE0000000000000 K
+02 0001 3FA0000000000000 0000000000000000 M
+02 0100 8000000000000000 0000000000000000 K
+02 0101 3FE1000000000000 3FE0000000000000 M
+03 0000 3FF0000000000000 3FF0000000000000 K
+03 0100 BFA0000000000000 BFB0000000000000 M
+04 0000 BFF4000000000000 BFF4000000000000 K
+04 0100 BFD6000000000000 BFD4000000000000 M
+05 0000 3FF4000000000000 3FF4000000000000 K
+05 0100 3FD6000000000000 3FD4000000000000 M
+06 0000 0000000000000000 0000000000000000 K
+07 0000 3FE4000000000000 3FE4000000000000 K
+";
+
+/// Two steps and two targets: of the table 32.5 and −16.5, of the limits 2.5 counts are moved.
+const PAGE_OF_TWO_TARGETS: &str = "\
+02 0000 3FE0000000000000 3FE0000000000000 K
+02 0001 0000000000000000 0000000000000000 K
+02 0100 0000000000000000 0000000000000000 K
+02 0101 3FE0000000000000 3FE0000000000000 K
+03 0000 3FF0000000000000 3FF0000000000000 K
+03 0100 3FF0000000000000 3FF0000000000000 K
+04 0000 BFF4000000000000 BFF4000000000000 K
+05 0000 3FF4000000000000 3FF4000000000000 K
+06 0000 0000000000000000 0000000000000000 K
+07 0000 3FE4000000000000 3FE4000000000000 K
+08 0000 3FF0000000000000 3FF0000000000000 K
+08 0001 4000400000000000 4000000000000000 M
+08 0100 BFF0800000000000 BFF1000000000000 M
+08 0101 8000000000000000 0000000000000000 K
+09 0000 3FC8000000000000 3FC8000000000000 K
+09 0100 3FC4000000000000 3FC8000000000000 M
+";
+
+/// The widest word, b 20: just below 2 counts in Φ, and limits that the last bit keeps from 2^31 counts.
+const PAGE_OF_WIDE_WORD: &str = "\
+02 0000 3FF0000000000000 3FF0000000000000 K
+03 0000 3EBFFFFFFFFFFFFF 3EB0000000000000 M
+04 0000 C09FFFFFFFFFFFFF C09FFFFFFFC00000 M
+05 0000 409FFFFFFFFFFFFF 409FFFFFFFC00000 M
+06 0000 0000000000000000 0000000000000000 K
+07 0000 409FFFFFFFC00000 409FFFFFFFC00000 K
+";
+
+/// Four motors, four steps, twelve states and four targets: H is 16 on the diagonal, all else is half a count or zero.
+fn largest_page() -> String {
+    let mut page = String::new();
+    let mut table = |kind: &str, rows: usize, columns: usize, doubles: &str| {
+        for (i, j) in (0..rows).flat_map(|i| (0..columns).map(move |j| (i, j))) {
+            let one = kind == "02" && i == j;
+            let doubles = if one { "3FF0000000000000 3FF0000000000000 K" } else { doubles };
+            page += &format!("{kind} {i:02X}{j:02X} {doubles}\n");
+        }
+    };
+    table("02", 16, 16, "8000000000000000 0000000000000000 K");
+    table("03", 16, 12, "3FA0000000000000 0000000000000000 M");
+    table("04", 4, 1, "BFA0000000000000 0000000000000000 M");
+    table("05", 4, 1, "3FA0000000000000 0000000000000000 M");
+    table("06", 1, 1, "0000000000000000 0000000000000000 K");
+    table("07", 12, 1, "3FA0000000000000 3FB0000000000000 M");
+    table("08", 16, 4, "BFA0000000000000 BFB0000000000000 M");
+    table("09", 4, 1, "BFA0000000000000 0000000000000000 M");
+    page
+}
+
+fn other_pages() -> Vec<Case> {
+    vec![
+        page_case("the page of two motors", "0102010104080000030000", PAGE_OF_TWO_MOTORS),
+        page_case("the page of two targets", "0101020104080200030000", PAGE_OF_TWO_TARGETS),
+        page_case("the page of the widest word", "0101010114200000030000", PAGE_OF_WIDE_WORD),
+        page_case("the largest page", "0104040C04080400030000", &largest_page()),
+    ]
+}
+
+/// Request 2: 15, and sheets that are refused otherwise than those above. Every case tries 15 behind its sheet's number.
+fn no_pages() -> Vec<Case> {
+    let s = sample();
+    let refused = |name: &str, text: String, number| sheet_case(name, &s, text.into_bytes(), Refused(number));
+    // Six lines of 44 bytes are right. Near misses; a line fewer or more; without byte 10; the sheet's and the image's.
+    let lengths = vec![0, 1, 44, 6 * 44 - 1, 6 * 44 + 1, 12 * 44, 5 * 44, 7 * 44, 6 * 43, 7 * 23, 14 * 4];
+    let skew = two_steps(8, 0).with(COST, &[8, 1, 0, 8]);
+    vec![
+        Case { expect: NoPage(lengths), ..page_case("lengths of a page", &SAMPLE[..LINE - 1], PAGE_OF_SAMPLE) },
+        case("H (8,1),(0,8)", &skew, &[10], Refused(8)),
+        refused("a lower-case digit", SAMPLE.replace('F', "f"), 1),
+        refused("the last byte 10 missing", SAMPLE.trim_end().to_string(), 1),
+        refused("no line", String::new(), 4),
+    ]
+}
+
+/// Folders and what the page program prints for them.
+pub fn page_table() -> Table {
+    let folder = |drive: &[u8]| Folder { drive: Some(drive.to_vec()), state: None, target: None };
+    let junk = Folder { state: Some(b"junk".to_vec()), target: Some(vec![0]), ..folder(SAMPLE.as_bytes()) };
+    let missing = Folder { drive: None, ..junk.clone() };
+    let mut table = vec![(junk, PAGE_OF_SAMPLE.to_string()), (missing, "refused 04\n".to_string())];
+    for case in pages_of_s().iter().chain(&other_pages()) {
+        if let Page(page) = &case.expect {
+            table.push((folder(&case.sheet), page.clone()));
+        }
+    }
+    let s = |old: &str, new: &str| SAMPLE.replacen(old, new, 1).into_bytes();
+    let refused: [(Vec<u8>, Number); 21] = [
+        (vec![], 4),
+        (b"\n".to_vec(), 1),
+        ([SAMPLE, "\n"].concat().into_bytes(), 4),
+        ([SAMPLE, "0"].concat().into_bytes(), 4),
+        ([SAMPLE, SAMPLE].concat().into_bytes(), 4),
+        (SAMPLE.trim_end().as_bytes().to_vec(), 1),
+        (SAMPLE.to_lowercase().into_bytes(), 1),
+        (SAMPLE.replace('\n', "\r\n").into_bytes(), 1),
+        (PAGE_OF_SAMPLE.as_bytes().to_vec(), 1),
+        (SAMPLE.as_bytes()[LINE..].to_vec(), 2),
+        (s("0300003FF", "0300013FF"), 2),
+        (s("0408000003", "0408050003"), 3),
+        (SAMPLE.as_bytes()[..6 * LINE].to_vec(), 4),
+        (s("0300003FF", "0300007FF"), 5),
+        (s("0700003FE", "070000BFE"), 5),
+        (s("0500003FF4", "050000BFF8"), 7),
+        (two_steps(8, 0).with(COST, &[8, 1, 0, 8]).sheet(), 8),
+        (two_steps(8, 8).sheet(), 9),
+        (two_steps(9, 8).sheet(), 10),
+        (two_steps(8, 7).with(MOMENTUM, &[9]).sheet(), 11),
+        (sample().with(STATE_LIMIT, &[118]).sheet(), 12),
+    ];
+    table.extend(refused.map(|(drive, number)| (folder(&drive), format!("refused {number:02}\n"))));
+    table
+}
+
 /// Folders and what the label program prints for them.
-pub fn label_table() -> Vec<(Folder, &'static str)> {
+pub fn label_table() -> Table {
     let text = |text: &str| Some(text.as_bytes().to_vec());
     let folder = |drive: &str, state, target: Option<&str>| Folder {
         drive: text(drive),
@@ -325,7 +580,7 @@ pub fn label_table() -> Vec<(Folder, &'static str)> {
     let both = |state, target| folder(&with_target, state, Some(target));
     let of = |target| both("0000000A\n", target);
     let (answer_of_s, refused) = ("FFFFFFEE 00000003\n", "refused 16\n");
-    vec![
+    let table = [
         (s(None), answer_of_s),
         (s(Some("")), answer_of_s),
         (s(Some("00000007\n")), answer_of_s),
@@ -351,7 +606,8 @@ pub fn label_table() -> Vec<(Folder, &'static str)> {
         (both("0000000A00000007\n", "\n"), "refused 13\n"),
         (folder("", "0000000A\n", Some("00000007\n")), "refused 04\n"),
         (folder(&without_headroom, "0000000B\n", None), "refused 12\n"),
-    ]
+    ];
+    table.map(|(folder, text)| (folder, text.to_string())).to_vec()
 }
 
 /// Runs one case through every call it reaches, and holds the outcome to the table's own figures.
@@ -360,6 +616,14 @@ pub fn run(harness: &mut Harness, case: &Case) {
     let image = case.image.clone().or(intake.written.clone());
     let solve = image.map(|image| solve(harness, &image, case));
     let solve_number = solve.as_ref().map_or(intake.number, |solve| solve.number);
+    let page_len = PAGE_LINE * (case.image_len / 4 - HEADER_WORDS);
+    let page = page_of(harness, case, page_len);
+    let page_numbers = (page.number, page_of(harness, case, page_len + 1).number);
+    // The sheet's number, and 15 behind it.
+    let page_holds = match intake.number {
+        0 => page_numbers == (0, 15),
+        number => page_numbers == (number, number),
+    };
     let holds = match &case.expect {
         Refused(number @ 13..) => (intake.number, solve_number) == (0, *number),
         Refused(number) => (intake.number, solve_number) == (*number, *number),
@@ -370,8 +634,10 @@ pub fn run(harness: &mut Harness, case: &Case) {
             let sizes = image.get(..HEADER_WORDS).and_then(Sizes::of_words);
             sizes.is_some_and(|sizes| image[HEADER_WORDS + sizes.extent(*kind).0..].starts_with(row))
         }
+        Page(text) => page.written.is_some_and(|page| page == text.as_bytes()),
+        NoPage(lengths) => lengths.iter().all(|&length| page_of(harness, case, length).number == 15),
     };
-    harness.check(holds, || format!("  the table's case: {}", case.name));
+    harness.check(holds && page_holds, || format!("  the table's case: {}", case.name));
 }
 
 fn solve(harness: &mut Harness, image: &[u8], case: &Case) -> Outcome {
@@ -380,4 +646,8 @@ fn solve(harness: &mut Harness, image: &[u8], case: &Case) -> Outcome {
     let start = case.start.clone().or(cold_start.written).unwrap_or(vec![0; 4 * commands]);
     let lent: [&[u8]; 4] = [image, &case.state, &case.target, &start];
     harness.compare(&Call::on_buffers(Kind::Solve, &lent, 8 * commands + case.spare))
+}
+
+fn page_of(harness: &mut Harness, case: &Case, page_len: usize) -> Outcome {
+    harness.compare(&Call::on_buffers(Kind::Page, &[&case.sheet], page_len))
 }

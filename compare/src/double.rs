@@ -61,6 +61,18 @@ pub fn inward(low: u64, high: u64, bits: u32, width: u32) -> Option<(i64, i64)> 
     Some((to_word(low, bits, width, Rounding::Up)?, to_word(high, bits, width, Rounding::Down)?))
 }
 
+/// Is the double exactly value / 2^bits? Zero is zero with either sign.
+pub fn is_count(double: u64, value: i64, bits: u32) -> bool {
+    let Some((mantissa, exponent)) = parts(double) else {
+        return false;
+    };
+    let shift = exponent + bits as i32;
+    // A longer shift would still leave one side 0 or beyond the other.
+    let places = shift.unsigned_abs().min(64);
+    let value = value as i128;
+    if shift >= 0 { mantissa << places == value } else { mantissa == value << places }
+}
+
 /// The bits of the double value / 2^bits.
 pub fn of_word(value: i64, bits: u32, width: u32) -> Result<u64, Number> {
     if !sizes_of_word_fit(bits as i64, width as i64) {

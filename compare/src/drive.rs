@@ -3,11 +3,12 @@
 use crate::double::{self, Rounding};
 use crate::image::{Number, bytes};
 use crate::rules::Rules;
-use crate::{sheet, solve};
+use crate::{page, sheet, solve};
 
 #[derive(Clone, Copy, Debug, PartialEq, Eq)]
 pub enum Kind {
     Intake,
+    Page,
     ColdStart,
     Solve,
     ToWord,
@@ -19,6 +20,7 @@ impl Kind {
     pub fn name(self) -> &'static str {
         match self {
             Kind::Intake => "intake",
+            Kind::Page => "page",
             Kind::ColdStart => "cold_start",
             Kind::Solve => "solve",
             Kind::ToWord => "to_word",
@@ -30,7 +32,7 @@ impl Kind {
     /// The names of its numbers, then of its lent buffers.
     pub fn arguments(self) -> (&'static [&'static str], &'static [&'static str]) {
         match self {
-            Kind::Intake => (&[], &["sheet"]),
+            Kind::Intake | Kind::Page => (&[], &["sheet"]),
             Kind::ColdStart => (&[], &["image"]),
             Kind::Solve => (&[], &["image", "state", "target", "start"]),
             Kind::ToWord => (&["bits", "b", "w", "up"], &[]),
@@ -71,10 +73,11 @@ pub trait Drive {
     fn call(&self, kind: Kind, numbers: &[u64], inputs: &[&[u8]], out: &mut [u8]) -> Number;
 }
 
-/// The outcome by document 01 and request 1, or that of a false economy.
+/// The outcome by document 01 with requests 1 and 2, or that of a false economy.
 pub fn outcome(kind: Kind, numbers: &[u64], inputs: &[&[u8]], out_len: usize, rules: Rules) -> Outcome {
     let result = match (kind, inputs) {
         (Kind::Intake, [sheet]) => sheet::intake_call(sheet, out_len, rules),
+        (Kind::Page, [sheet]) => page::page_call(sheet, out_len, rules),
         (Kind::ColdStart, [image]) => solve::cold_start_call(image, out_len, rules),
         (Kind::Solve, &[image, state, target, start]) => {
             solve::solve_call([image, state, target, start], out_len, rules)
@@ -137,6 +140,7 @@ mod linked {
 
     unsafe extern "C" {
         fn gantry_intake(sheet: *const u8, sheet_len: usize, image: *mut u8, image_len: usize) -> u32;
+        fn gantry_page(sheet: *const u8, sheet_len: usize, page: *mut u8, page_len: usize) -> u32;
         fn gantry_cold_start(image: *const u8, image_len: usize, start: *mut u8, start_len: usize) -> u32;
         fn gantry_solve(
             image: *const u8,
@@ -162,6 +166,7 @@ mod linked {
             unsafe {
                 match (kind, inputs) {
                     (Kind::Intake, [sheet]) => gantry_intake(sheet.as_ptr(), sheet.len(), to, room),
+                    (Kind::Page, [sheet]) => gantry_page(sheet.as_ptr(), sheet.len(), to, room),
                     (Kind::ColdStart, [image]) => gantry_cold_start(image.as_ptr(), image.len(), to, room),
                     (Kind::Solve, [image, state, target, start]) => gantry_solve(
                         image.as_ptr(),

@@ -1,11 +1,14 @@
-//! The false economies and lazy drives of document 01, and those of request 1. Each must be found on the table of cases:
-//! a comparison that cannot fail is worthless.
+//! The false economies and lazy drives of document 01, and those of requests 1 and 2. Each must be found on the table of
+//! cases: a comparison that cannot fail is worthless.
 
 use crate::cases;
+use crate::double::{Rounding, of_count};
 use crate::drive::{Drive, Kind, Reference};
 use crate::harness::Harness;
-use crate::image::{HEADER_WORDS, Number, Sizes, TARGET_GAIN, bytes, open, words};
+use crate::image::{HEADER_WORDS, HIGH, LOW, Number, Sizes, TARGET_GAIN, bytes, open, words};
+use crate::page::{self, GIVEN, KEPT, MARK, PAGE_LINE, PLACE};
 use crate::rules::Rules;
+use crate::sheet::{self, LINE, hex};
 
 /// What a lazy drive makes of the reference's outcome.
 type Spoil = Box<dyn Fn(Kind, &[&[u8]], Number, &mut [u8]) -> Number>;
@@ -41,9 +44,36 @@ fn lazy_solve(name: &'static str, at: &'static [Number], answer: fn(&[&[u8]], &m
     )
 }
 
+/// A drive that changes the page of an accepted sheet.
+fn lazy_page(name: &'static str, change: impl Fn(&[u8], &mut [u8]) + 'static) -> Economy {
+    lazy(name, move |kind, inputs, number, out| {
+        if kind == Kind::Page && number == 0 {
+            change(inputs[0], out);
+        }
+        number
+    })
+}
+
+/// A drive that changes every line of a page.
+fn lazy_lines(name: &'static str, change: fn(&mut [u8])) -> Economy {
+    lazy_page(name, move |_, page| page.chunks_mut(PAGE_LINE).for_each(change))
+}
+
+/// A drive that answers on its own where a page has one of these numbers.
+fn no_page(name: &'static str, at: &'static [Number], answer: fn(&[u8], Number, &mut [u8]) -> Number) -> Economy {
+    lazy(
+        name,
+        move |kind, inputs, number, out| {
+            if kind == Kind::Page && at.contains(&number) { answer(inputs[0], number, out) } else { number }
+        },
+    )
+}
+
 fn economies() -> Vec<Economy> {
     let mut economies = of_document_01();
     economies.extend(with_targets());
+    economies.extend(on_pages());
+    economies.extend(without_pages());
     economies
 }
 
@@ -114,6 +144,134 @@ fn with_targets() -> Vec<Economy> {
             _ => number,
         }),
     ]
+}
+
+const ZERO: &[u8] = b"0000000000000000";
+const MINUS_ZERO: &[u8] = b"8000000000000000";
+
+/// Request 2's, on what a page says.
+fn on_pages() -> Vec<Economy> {
+    vec![
+        lazy_lines("marks by the bits", |line| {
+            line[MARK] = if line[GIVEN] == line[KEPT] { b'K' } else { b'M' };
+        }),
+        lazy_lines("prints the kept minus zero with its sign", |line| {
+            if line[GIVEN] == *MINUS_ZERO {
+                line[KEPT].copy_from_slice(MINUS_ZERO);
+            }
+        }),
+        lazy_lines("prints the given minus zero without its sign", |line| {
+            if line[GIVEN] == *MINUS_ZERO {
+                line[GIVEN].copy_from_slice(ZERO);
+            }
+        }),
+        lazy_lines("keeps the sign of what it rounds up to zero", |line| {
+            if line[KEPT] == *ZERO && line[GIVEN] > *MINUS_ZERO {
+                line[KEPT].copy_from_slice(MINUS_ZERO);
+            }
+        }),
+        lazy_lines("exchanges the given and the kept double", |line| {
+            let given = line[GIVEN].to_vec();
+            line.copy_within(KEPT, GIVEN.start);
+            line[KEPT].copy_from_slice(&given);
+        }),
+        lazy_lines("exchanges K and M", |line| line[MARK] = if line[MARK] == b'K' { b'M' } else { b'K' }),
+        lazy_lines("marks by the words", |line| line[MARK] = b'K'),
+        lazy_lines("marks in single precision", |line| {
+            let [given, kept] = [GIVEN, KEPT].map(|part| f64::from_bits(number_of(&line[part])) as f32);
+            line[MARK] = if given == kept { b'K' } else { b'M' };
+        }),
+        lazy_lines("takes a subnormal double for zero", |line| {
+            if number_of(&line[GIVEN]) << 1 >> 53 == 0 {
+                line[KEPT].copy_from_slice(ZERO);
+                line[MARK] = b'K';
+            }
+        }),
+        lazy_lines("exchanges row and column", |line| line[PLACE].rotate_left(2)),
+        lazy_lines("prints row and column in decimal digits", |line| {
+            let [row, column] = [0, 2].map(|at| number_of(&line[PLACE][at..at + 2]));
+            line[PLACE].copy_from_slice(format!("{row:02}{column:02}").as_bytes());
+        }),
+        lazy_lines("prints small letters", |line| line[..MARK].make_ascii_lowercase()),
+        lazy_page("rounds the kept double the other way", round_otherwise),
+        lazy_page("prints a motor's limits together", limits_together),
+        lazy_page("prints line 01 in the place of the last", |sheet, page| {
+            page.rotate_right(PAGE_LINE);
+            page[..PAGE_LINE].copy_from_slice(&first_line(sheet));
+        }),
+    ]
+}
+
+/// Request 2's, on the page's length and on refused sheets.
+fn without_pages() -> Vec<Economy> {
+    vec![
+        no_page("prints line 01 too", &[0, 15], |sheet, _, out| {
+            let page = [first_line(sheet), page_of(sheet)].concat();
+            if out.len() != page.len() {
+                return 15;
+            }
+            out.copy_from_slice(&page);
+            0
+        }),
+        no_page("tests the page's length before 12", &[12], length_before),
+        no_page("tests the page's length before the tables", &[7, 8, 9, 10, 11, 12], length_before),
+        no_page("tests the page's length by the sheet's", &[1, 2, 3, 4, 5], |sheet, number, out| {
+            let lines = (sheet.len() / LINE).saturating_sub(1);
+            if out.len() == PAGE_LINE * lines { number } else { 15 }
+        }),
+        no_page("writes the page of a sheet that its tables refuse", &[7, 8, 9, 10, 11, 12], write_anyway),
+        no_page("writes what fits of a page", &[15], write_anyway),
+        no_page("takes a longer buffer for the page", &[15], |sheet, _, out| {
+            if out.len() < page_of(sheet).len() { 15 } else { write_anyway(sheet, 0, out) }
+        }),
+        no_page("takes a buffer of the image's length for the page", &[15], |sheet, _, out| {
+            let image = sheet::image(sheet, Rules::default()).expect("the sheet is accepted");
+            if out.len() == image.len() { write_anyway(sheet, 0, out) } else { 15 }
+        }),
+    ]
+}
+
+fn number_of(digits: &[u8]) -> u64 {
+    u64::from_str_radix(str::from_utf8(digits).expect("digits"), 16).expect("digits")
+}
+
+/// Line 01 as a page's line.
+fn first_line(sheet: &[u8]) -> Vec<u8> {
+    let [kind, place, value]: [&[u8]; 3] = [&sheet[..2], &sheet[2..6], &sheet[6..LINE - 1]];
+    [kind, place, value, value, b"K\n"].join(&b' ')
+}
+
+/// The page of a sheet that passed the checks of its lines.
+fn page_of(sheet: &[u8]) -> Vec<u8> {
+    let (sizes, body) = sheet::read(sheet, Rules::default()).expect("the lines are accepted");
+    page::of_words(sheet, sizes.bits, &body)
+}
+
+fn write_anyway(sheet: &[u8], number: Number, out: &mut [u8]) -> Number {
+    out.iter_mut().zip(page_of(sheet)).for_each(|(to, byte)| *to = byte);
+    number
+}
+
+fn length_before(sheet: &[u8], number: Number, out: &mut [u8]) -> Number {
+    if out.len() == page_of(sheet).len() { number } else { 15 }
+}
+
+fn round_otherwise(sheet: &[u8], page: &mut [u8]) {
+    let (sizes, body) = sheet::read(sheet, Rules::default()).expect("the sheet is accepted");
+    for (((section, _, _), word), line) in sizes.places().zip(body).zip(page.chunks_mut(PAGE_LINE)) {
+        let away = if section.rounding == Rounding::Down { 1 } else { -1 };
+        if line[MARK] == b'M' {
+            line[KEPT].copy_from_slice(hex(&of_count(word + away, sizes.bits).to_be_bytes()).as_bytes());
+        }
+    }
+}
+
+fn limits_together(sheet: &[u8], page: &mut [u8]) {
+    let (sizes, _) = sheet::read(sheet, Rules::default()).expect("the sheet is accepted");
+    let [low, high] = [LOW, HIGH].map(|kind| sizes.extent(kind).0);
+    let line = |index: usize| page[PAGE_LINE * index..PAGE_LINE * (index + 1)].to_vec();
+    let limits: Vec<Vec<u8>> = (0..sizes.motors).flat_map(|motor| [line(low + motor), line(high + motor)]).collect();
+    page[PAGE_LINE * low..PAGE_LINE * (high + sizes.motors)].copy_from_slice(&limits.concat());
 }
 
 fn solve(inputs: [&[u8]; 4], out: &mut [u8]) -> Number {

@@ -5,14 +5,17 @@ use crate::draft::{Draft, text};
 use crate::image::{
     COST, GAIN, HIGH, LOW, MOMENTUM, Number, STATE_LIMIT, Sizes, TARGET_GAIN, TARGET_LIMIT, bytes, momentum_fits,
 };
-use crate::label::Folder;
+use crate::page::PAGE_LINE;
+use crate::process::Folder;
 use crate::random::Random;
 use crate::sheet::{Frame, LINE, MOST_LINES, hex};
 
 pub const INTAKE_NUMBERS: [Number; 12] = [1, 2, 3, 4, 5, 7, 8, 9, 10, 11, 12, 15];
+pub const PAGE_NUMBERS: [Number; 12] = INTAKE_NUMBERS;
 pub const COLD_START_NUMBERS: [Number; 10] = [3, 5, 6, 7, 8, 9, 10, 11, 12, 15];
 pub const SOLVE_NUMBERS: [Number; 13] = [3, 5, 6, 7, 8, 9, 10, 11, 12, 13, 16, 14, 15];
 pub const LABEL_NUMBERS: [Number; 13] = [1, 2, 3, 4, 5, 7, 8, 9, 10, 11, 12, 13, 16];
+pub const PAGE_PROGRAM_NUMBERS: [Number; 11] = [1, 2, 3, 4, 5, 7, 8, 9, 10, 11, 12];
 
 /// What is to be spoilt: the numbers to provoke, and whether bytes are damaged at random besides.
 pub struct Plan {
@@ -164,6 +167,9 @@ fn accepted(random: &mut Random, targets: usize) -> Draft {
     let [(state_table, state_limits), (target_table, target_limits)] = INPUTS;
     let smaller = [[state_table, target_table], [state_limits, target_limits]];
     halve_to_headroom(&mut draft, &random.pick(&smaller));
+    if random.one_in(16) {
+        inputs_at_top(random, &mut draft);
+    }
     if random.one_in(3) {
         at_headroom(random, &mut draft, 0);
     }
@@ -173,6 +179,19 @@ fn accepted(random: &mut Random, targets: usize) -> Draft {
 
 /// The tables of the linear term with their limits.
 const INPUTS: [(u8, u8); 2] = [(GAIN, STATE_LIMIT), (TARGET_GAIN, TARGET_LIMIT)];
+
+/// Gains or limits at the ends of the word; the others are 0, so that they take no headroom.
+fn inputs_at_top(random: &mut Random, draft: &mut Draft) {
+    let top = draft.sizes.top();
+    for (table, limits) in INPUTS {
+        let (zero, large) = random.pick(&[(table, limits), (limits, table)]);
+        draft.section(zero).fill(0);
+        for word in draft.section(large) {
+            let sign = if large == table { random.sign() } else { 1 };
+            *word = sign * (top - random.between(0, 1));
+        }
+    }
+}
 
 fn halve_to_headroom(draft: &mut Draft, kinds: &[u8]) {
     while draft.problem().leaves_headroom() {
@@ -367,6 +386,14 @@ pub fn out_len(random: &mut Random, plan: &Plan, exact: usize) -> usize {
     if plan.has(15) { other_size(random, exact) } else { exact }
 }
 
+/// The same for a page, whose length might be taken for that of another buffer.
+pub fn page_len(random: &mut Random, plan: &Plan, sizes: &Sizes) -> usize {
+    let lines = sizes.body_words();
+    let exact = PAGE_LINE * lines;
+    let mistaken = [exact - PAGE_LINE, exact + PAGE_LINE, exact - lines, LINE * (lines + 1), sizes.image_bytes()];
+    if plan.has(15) && random.one_in(2) { random.pick(&mistaken) } else { out_len(random, plan, exact) }
+}
+
 fn spoil_header(random: &mut Random, sizes: &Sizes, image: &mut [u8]) {
     let words = sizes.words();
     let [motors, _, states, bits, width, iterations, targets, _] = words;
@@ -421,14 +448,24 @@ pub fn beside(double: u64, direction: i64) -> u64 {
 fn double_near(random: &mut Random, word: i64, bits: u32, rounding: Rounding) -> u64 {
     let exact = of_count(word, bits);
     let away = if rounding == Rounding::Down { 1 } else { -1 };
-    match random.below(8) {
+    match random.below(9) {
         0 if word == 0 => 1 << 63,
         1 => beside(exact, away),
         2 => beside(of_count(word + away, bits), -away),
         3 => of_count(2 * word + away, bits + 1),
         4 => of_count((word << 20) + away * random.between(0, (1 << 20) - 1), bits + 20),
+        5 => short_of_next(random, word, away, bits),
         _ => exact,
     }
+}
+
+/// Any double from the word's on that does not reach the next count: beside 0 every exponent is about as frequent.
+fn short_of_next(random: &mut Random, word: i64, away: i64, bits: u32) -> u64 {
+    let negative = word < 0 || word == 0 && away < 0;
+    // Magnitudes are in the order of their bits.
+    let [own, next] = [word, word + away].map(|count| of_count(count.abs(), bits) as i64);
+    let magnitude = if own < next { random.between(own, next - 1) } else { random.between(next + 1, own) };
+    u64::from(negative) << 63 | magnitude as u64
 }
 
 /// Doubles at the end of the word, on both sides of it, and those that are no number.
@@ -547,7 +584,11 @@ fn spoil_text(random: &mut Random, text: &mut Vec<u8>, number: Number) {
             0 => text.truncate(at),
             1 => drop(text.remove(at)),
             2 => text.insert(at, random.pick(b"\r\n 0Fg\0")),
-            3 => text[at / LINE * LINE + LINE - 1] = random.pick(b"\r 0A\0"),
+            3 => {
+                // The last line may have been cut already.
+                let end = (at / LINE * LINE + LINE).min(text.len());
+                text[end - 1] = random.pick(b"\r 0A\0");
+            }
             4 => drop(text.pop()),
             _ => text[at] = random.pick(b"abfGg/:@`\r\n \0\xB0\xC1x-."),
         },
@@ -565,7 +606,7 @@ fn spoil_text(random: &mut Random, text: &mut Vec<u8>, number: Number) {
     }
 }
 
-pub fn label_case(random: &mut Random, index: u64) -> Folder {
+pub fn label_folder(random: &mut Random, index: u64) -> Folder {
     let plan = Plan::new(random, index, &LABEL_NUMBERS);
     let (draft, drive) = sheet_case(random, &plan);
     let problem = draft.problem();
@@ -582,6 +623,22 @@ pub fn label_case(random: &mut Random, index: u64) -> Folder {
         _ => {}
     }
     folder
+}
+
+/// drive.hex, beside files that are of no concern to the page.
+pub fn page_folder(random: &mut Random, index: u64) -> Folder {
+    let plan = Plan::new(random, index, &PAGE_PROGRAM_NUMBERS);
+    let (_, mut sheet) = sheet_case(random, &plan);
+    let drive = match random.below(16) {
+        0 => None,
+        1 => Some(vec![]),
+        2 if !sheet.is_empty() => {
+            spoil_form(random, &mut sheet);
+            Some(sheet)
+        }
+        _ => Some(sheet),
+    };
+    Folder { drive, state: ignored_text(random), target: ignored_text(random) }
 }
 
 /// state.hex or target.hex. Spoilt are its values, its form, or both.
@@ -608,7 +665,7 @@ fn spoil_form(random: &mut Random, text: &mut Vec<u8>) {
     }
 }
 
-/// target.hex with nr 0: nobody is to read it.
+/// A file that nobody is to read, as target.hex with nr 0.
 fn ignored_text(random: &mut Random) -> Option<Vec<u8>> {
     let texts: [&[u8]; 7] = [b"", b"\n", b"00000000\n", b"0000000", b"no target\r\n", b"\xFF\0\n", &[b'F'; 5000]];
     random.pick(&[false, true, true]).then(|| random.pick(&texts).to_vec())

@@ -6,6 +6,7 @@ use std::os::unix::fs::FileExt;
 
 use crate::drive::{Call, Drive, Kind, Outcome, outcome};
 use crate::image::{HEADER_WORDS, Number, words};
+use crate::page::{self, PAGE_LINE};
 use crate::rules::Rules;
 use crate::sheet::hex;
 
@@ -88,6 +89,8 @@ pub struct Harness<'a> {
     pub sizes: BTreeSet<Vec<i64>>,
     pub formats: BTreeSet<Vec<i64>>,
     pub targets: BTreeSet<(i64, i64)>,
+    /// The kinds of accepted pages by their last digit, and the marks.
+    pub marks: BTreeSet<(u8, u8)>,
     /// The group and index under way; also in a file, for whoever finds the program crashed.
     place: (&'static str, u64),
     place_file: Option<File>,
@@ -105,6 +108,7 @@ impl<'a> Harness<'a> {
             sizes: BTreeSet::new(),
             formats: BTreeSet::new(),
             targets: BTreeSet::new(),
+            marks: BTreeSet::new(),
             place: ("", 0),
             place_file,
             quiet: false,
@@ -130,15 +134,27 @@ impl<'a> Harness<'a> {
         let expected = outcome(call.kind, &call.numbers, &inputs, call.out_len, Rules::default());
         let observed = observe(self.drive, call);
         self.meet(call.kind.name(), expected.number);
-        if call.kind == Kind::Solve && expected.number == 0 {
-            let header = words(&call.inputs[0][..4 * HEADER_WORDS]);
-            self.sizes.insert(header[..3].to_vec());
-            self.formats.insert(header[3..5].to_vec());
-            self.targets.insert((header[0] * header[1], header[6]));
+        match (call.kind, &expected.written) {
+            (Kind::Solve, Some(_)) => self.cover_solve(&call.inputs[0]),
+            (Kind::Page, Some(page)) => self.cover_page(page),
+            _ => {}
         }
         let agrees = observed.as_ref() == Ok(&expected);
         self.check(agrees, || describe(call, &expected, &observed));
         expected
+    }
+
+    fn cover_solve(&mut self, image: &[u8]) {
+        let header = words(&image[..4 * HEADER_WORDS]);
+        self.sizes.insert(header[..3].to_vec());
+        self.formats.insert(header[3..5].to_vec());
+        self.targets.insert((header[0] * header[1], header[6]));
+    }
+
+    fn cover_page(&mut self, page: &[u8]) {
+        for line in page.chunks(PAGE_LINE) {
+            self.marks.insert((line[page::KIND][1], line[page::MARK]));
+        }
     }
 
     pub fn meet(&mut self, call: &'static str, number: Number) {
@@ -173,15 +189,18 @@ fn describe(call: &Call, expected: &Outcome, observed: &Result<Outcome, String>)
     for (name, input) in input_names.iter().zip(&call.inputs) {
         text += &format!("  {name}, {} bytes\n{}", input.len(), show(name, input));
     }
-    text += &format!("  expected {}\n", show_outcome(expected));
+    text += &format!("  expected {}\n", show_outcome(call.kind, expected));
     match observed {
-        Ok(outcome) => text + &format!("  answered {}", show_outcome(outcome)),
+        Ok(outcome) => text + &format!("  answered {}", show_outcome(call.kind, outcome)),
         Err(fault) => text + &format!("  answered {fault}"),
     }
 }
 
-fn show_outcome(outcome: &Outcome) -> String {
+fn show_outcome(kind: Kind, outcome: &Outcome) -> String {
     match &outcome.written {
+        Some(written) if kind == Kind::Page => {
+            format!("number {}, writing\n{}", outcome.number, show_text(written).trim_end())
+        }
         Some(written) => format!("number {}, writing {}", outcome.number, hex(written)),
         None => format!("number {}, buffer left", outcome.number),
     }
@@ -190,9 +209,13 @@ fn show_outcome(outcome: &Outcome) -> String {
 /// A sheet as its text, any other buffer in words.
 fn show(name: &str, input: &[u8]) -> String {
     if name == "sheet" {
-        let lines = input.split_inclusive(|&byte| byte == b'\n');
-        return lines.map(|line| format!("    {}\n", line.escape_ascii())).collect();
+        return show_text(input);
     }
     let line = |chunk: &[u8]| chunk.chunks(4).map(hex).collect::<Vec<String>>().join(" ");
     input.chunks(64).map(|chunk| format!("    {}\n", line(chunk))).collect()
+}
+
+fn show_text(text: &[u8]) -> String {
+    let lines = text.split_inclusive(|&byte| byte == b'\n');
+    lines.map(|line| format!("    {}\n", line.escape_ascii())).collect()
 }

@@ -1,5 +1,5 @@
-//! The second program: document 01 and request 1 implemented on their own, beside the static library and the label
-//! program.
+//! The second program: document 01 with requests 1 and 2 implemented on its own, beside the static library, the label
+//! program and the page program.
 
 mod big;
 mod cases;
@@ -12,6 +12,8 @@ mod generate;
 mod harness;
 mod image;
 mod label;
+mod page;
+mod process;
 mod random;
 mod rules;
 mod sheet;
@@ -28,7 +30,7 @@ use harness::{Harness, NUMBERS};
 use image::Number;
 
 const USAGE: &str = "compare [--seed N] [--count N | --long] [--only GROUP:INDEX] [--self] [--work FOLDER]
-compare --label acts as the label program in the current folder";
+compare --label and compare --page act as the label and the page program in the current folder";
 /// Random solves of a run; the other groups are in proportion.
 const COUNT: u64 = 100_000;
 const LONG_COUNT: u64 = 20 * COUNT;
@@ -80,8 +82,13 @@ fn drive(on_itself: bool) -> Result<(Box<dyn Drive>, bool), String> {
 }
 
 fn main() -> ExitCode {
-    if std::env::args().nth(1).as_deref() == Some("--label") {
-        label::act();
+    let program = match std::env::args().nth(1).as_deref() {
+        Some("--label") => Some(label::PROGRAM),
+        Some("--page") => Some(page::PROGRAM),
+        _ => None,
+    };
+    if let Some(program) = program {
+        program.act();
         return ExitCode::SUCCESS;
     }
     match options().and_then(run) {
@@ -125,7 +132,7 @@ fn run(options: Options) -> Result<bool, String> {
 fn print_numbers(harness: &Harness) {
     let row = |name: &str, cells: Vec<String>| {
         let cells: String = cells.iter().map(|cell| format!("{cell:>8}")).collect();
-        println!("{name:<10}{cells}");
+        println!("{name:<12}{cells}");
     };
     row("number", (0..NUMBERS).map(|number| number.to_string()).collect());
     for (call, numbers) in &harness.met {
@@ -140,11 +147,13 @@ fn print_numbers(harness: &Harness) {
 fn require_cover(harness: &mut Harness) {
     harness.enter("cover", 0);
     let conversions: [Number; 1] = [5];
-    let can: [(&str, &[Number]); 7] = [
+    let can: [(&str, &[Number]); 9] = [
         ("intake", &generate::INTAKE_NUMBERS),
+        ("page", &generate::PAGE_NUMBERS),
         ("cold_start", &generate::COLD_START_NUMBERS),
         ("solve", &generate::SOLVE_NUMBERS),
         ("label", &generate::LABEL_NUMBERS),
+        ("page_program", &generate::PAGE_PROGRAM_NUMBERS),
         ("to_word", &conversions),
         ("inward", &conversions),
         ("to_double", &[3, 5]),
@@ -161,4 +170,9 @@ fn require_cover(harness: &mut Harness) {
     let [sizes, formats, targets] = covered;
     println!("accepted solves: {sizes} of 396 sizes, {formats} of 320 pairs of b and W, {targets} of 80 of n and nr");
     harness.check(covered == [396, 320, 80], || "  some sizes were never solved".to_string());
+    println!("accepted pages: {} of 16 pairs of kind and mark", harness.marks.len());
+    for (kind, mark) in (b'2'..=b'9').flat_map(|kind| [(kind, b'K'), (kind, b'M')]) {
+        let met = harness.marks.contains(&(kind, mark));
+        harness.check(met, || format!("  no page had {} on a line 0{}", mark as char, kind as char));
+    }
 }

@@ -1,4 +1,4 @@
-//! Where a false economy departs from the rules of document 01 and request 1.
+//! Where a false economy departs from the rules of document 01 and request 1; those of request 2 change the page alone.
 
 /// The default is the papers' rules.
 #[derive(Clone, Copy, Default)]

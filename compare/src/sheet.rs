@@ -80,10 +80,15 @@ fn word(sizes: &Sizes, section: &Section, double: u64, rules: Rules) -> Option<i
     section.admits(word, rules).then_some(word)
 }
 
-/// The sheet's image, unless a check up to 12 refuses it.
-pub fn image(text: &[u8], rules: Rules) -> Result<Vec<u8>, Number> {
+/// The sheet's sizes and body words, unless a check up to 12 refuses it.
+pub fn accept(text: &[u8], rules: Rules) -> Result<(Sizes, Vec<i64>), Number> {
     let (sizes, body) = read(text, rules)?;
     Problem::new(sizes, &body, rules).check()?;
+    Ok((sizes, body))
+}
+
+pub fn image(text: &[u8], rules: Rules) -> Result<Vec<u8>, Number> {
+    let (sizes, body) = accept(text, rules)?;
     Ok(bytes(&[&sizes.words(), &body[..]].concat()))
 }
 

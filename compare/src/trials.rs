@@ -1,11 +1,10 @@
 //! The groups of trials. A trial draws from its own random stream, so that any one can be run alone.
 
-use std::ffi::OsStr;
 use std::fs::{canonicalize, create_dir_all};
 use std::path::Path;
 
 use crate::big::Big;
-use crate::cases::{self, label_table};
+use crate::cases;
 use crate::double::{self, Rounding};
 use crate::draft::Draft;
 use crate::drive::{Call, Kind};
@@ -13,8 +12,10 @@ use crate::economies;
 use crate::former::Former;
 use crate::generate::{self, Plan, SolveCase};
 use crate::harness::{Harness, Lent};
-use crate::image::{Problem, Sizes, bytes, sizes_of_word_fit, top, words};
+use crate::image::{HEADER_WORDS, Problem, Sizes, bytes, sizes_of_word_fit, top, words};
 use crate::label;
+use crate::page::{self, PAGE_LINE};
+use crate::process::Program;
 use crate::random::Random;
 use crate::rules::Rules;
 use crate::sheet::{LINE, MOST_LINES};
@@ -45,6 +46,7 @@ pub fn groups(count: u64, has_conversions: bool, work: &Path) -> Vec<Group> {
         group("solve", count, solve),
         group("cold_start", count / 4, cold_start),
         group("intake", count, intake),
+        group("page", count / 4, page),
         group("demand3", count / 25, demand3),
     ];
     if has_conversions {
@@ -55,21 +57,26 @@ pub fn groups(count: u64, has_conversions: bool, work: &Path) -> Vec<Group> {
     } else {
         println!("skipped: the conversions by themselves, since there is no libprobe.a");
     }
-    match std::env::var_os("GANTRY_LABEL") {
-        Some(program) => groups.push(label_group(count / 100, &program, work)),
-        None => println!("skipped: the label program, since GANTRY_LABEL is not set"),
+    for program in PROGRAMS {
+        match std::env::var_os(program.variable) {
+            Some(path) => groups.push(program_group(program, count / 100, Path::new(&path), work)),
+            None => println!("skipped: {}, since {} is not set", program.name, program.variable),
+        }
     }
     groups
 }
 
-fn label_group(count: u64, program: &OsStr, work: &Path) -> Group {
-    let program = canonicalize(program).expect("GANTRY_LABEL is a program");
-    let place = work.join("label");
+const PROGRAMS: [Program; 2] = [label::PROGRAM, page::PROGRAM];
+
+fn program_group(program: Program, count: u64, path: &Path, work: &Path) -> Group {
+    let path = canonicalize(path).unwrap_or_else(|_| panic!("{} is a program", program.variable));
+    let place = work.join(program.name);
     create_dir_all(&place).expect("the folder can be made");
+    let (name, count) = (program.name, count + (program.table)().len() as u64);
     let trial = move |harness: &mut Harness, index: u64, random: &mut Random| {
-        label::run(harness, &program, &place, index, random);
+        program.run(harness, &path, &place, index, random);
     };
-    Group { name: "label", count: count + label_table().len() as u64, trial: Box::new(trial) }
+    Group { name, count, trial: Box::new(trial) }
 }
 
 fn solve(harness: &mut Harness, index: u64, random: &mut Random) {
@@ -98,6 +105,32 @@ fn intake(harness: &mut Harness, index: u64, random: &mut Random) {
     }
 }
 
+fn page(harness: &mut Harness, index: u64, random: &mut Random) {
+    let plan = Plan::new(random, index, &generate::PAGE_NUMBERS);
+    let (draft, sheet) = generate::sheet_case(random, &plan);
+    let page_len = generate::page_len(random, &plan, &draft.sizes);
+    let outcome = harness.compare(&Call::on_buffers(Kind::Page, &[&sheet], page_len));
+    if let Some(page) = outcome.written {
+        put_back(harness, &sheet, &page);
+    }
+}
+
+/// An accepted sheet with its kept doubles for the given ones: it has the same image, and no number moves again.
+fn put_back(harness: &mut Harness, sheet: &[u8], page: &[u8]) {
+    let kept = page::sheet_of(&sheet[..LINE], page, page::KEPT);
+    let image_len = 4 * (HEADER_WORDS + page.len() / PAGE_LINE);
+    let mut image = |sheet: &[u8]| harness.compare(&Call::on_buffers(Kind::Intake, &[sheet], image_len)).written;
+    let (old, new) = (image(sheet), image(&kept));
+    harness.check(old.is_some() && old == new, || "  the kept doubles have another image".to_string());
+    let outcome = harness.compare(&Call::on_buffers(Kind::Page, &[&kept], page.len()));
+    let settled = |(old, new): (&[u8], &[u8])| {
+        new[page::MARK] == b'K' && new[page::GIVEN] == old[page::KEPT] && new[page::KEPT] == old[page::KEPT]
+    };
+    let again = outcome.written.unwrap_or_default();
+    let holds = again.len() == page.len() && page.chunks(PAGE_LINE).zip(again.chunks(PAGE_LINE)).all(settled);
+    harness.check(holds, || "  the kept doubles move again".to_string());
+}
+
 /// Small problems, whose bytes are damaged one by one.
 fn victims() -> [Draft; 3] {
     [cases::sample(), cases::two_motors(), cases::two_targets()]
@@ -115,6 +148,7 @@ fn damage(harness: &mut Harness, index: u64, _: &mut Random) {
         if index < sheet.len() {
             for sheet in damaged(&sheet, index) {
                 harness.compare(&Call::on_buffers(Kind::Intake, &[&sheet], image.len()));
+                harness.compare(&Call::on_buffers(Kind::Page, &[&sheet], PAGE_LINE * draft.body.len()));
             }
             return;
         }
@@ -270,6 +304,8 @@ fn itself(harness: &mut Harness, _: u64, random: &mut Random) {
     big_agrees(harness, random);
     conversions_agree(harness, random);
     sample_agrees(harness);
+    programs_agree(harness);
+    marks_agree(harness, random);
     targets_agree(harness);
     former_agrees(harness, random);
     let problem = cases::sample().problem();
@@ -316,14 +352,35 @@ fn conversions_agree(harness: &mut Harness, random: &mut Random) {
     }
 }
 
-/// S: its text, its label, and −17.5 after three exact sweeps, which a bound of 0 does not cover.
+/// The programs' tables.
+fn programs_agree(harness: &mut Harness) {
+    for program in PROGRAMS {
+        for (folder, expected) in (program.table)() {
+            let printed = program.expected(&folder).1;
+            harness.check(printed == expected, || format!("  not {expected:?}, but {printed:?} is printed"));
+        }
+    }
+}
+
+/// A double is kept exactly where both roundings give its word, and where its bits are the word's but for a zero's sign.
+fn marks_agree(harness: &mut Harness, random: &mut Random) {
+    for (b, w) in formats() {
+        for bits in doubles(random, b, w) {
+            let [down, up] = [Rounding::Down, Rounding::Up].map(|rounding| double::to_word(bits, b, w, rounding));
+            for word in down.into_iter().chain(up) {
+                let unsigned = if bits << 1 == 0 { 0 } else { bits };
+                let kept = double::is_count(bits, word, b);
+                let holds = [down == up, unsigned == double::of_count(word, b)] == [kept; 2];
+                harness.check(holds, || format!("  {bits:016X} at b {b} is kept as {word}: {kept}"));
+            }
+        }
+    }
+}
+
+/// S: its text, and −17.5 after three exact sweeps, which a bound of 0 does not cover.
 fn sample_agrees(harness: &mut Harness) {
     let sample = cases::sample();
     harness.check(sample.sheet() == cases::SAMPLE.as_bytes(), || "  S is not document 01's".to_string());
-    for (folder, expected) in label_table() {
-        let label = label::expected(&folder).1;
-        harness.check(label == expected, || format!("  not {expected:?}, but {label:?} is printed"));
-    }
     let problem = sample.problem();
     let mut exact = Exact::new(&problem, &[10], &[0]);
     (0..3).for_each(|_| exact.step());
