@@ -13,14 +13,20 @@ use Rattle.frame.specs.Frame.{dueAt, headOf, total}
 use Rattle.frame.proofs.Sized.{head-sound}
 use Rattle.frame.proofs.Laws.{total-high}
 use Rattle.page_line.proofs.Written.{length-line}
-use Rattle.design_page.specs.Page.{designCount, headCount, lineEffect, linesPage, pageLine}
+use Rattle.design_page.specs.Page.{designCount, headCount, headPage, lineEffect, pageLine, sheetPage}
 
 pub length-page-line : (z : Sizes) (s : List ℕ) (i : ℕ) → length (pageLine z s i) ≡ 44
 unfolding pageLine
 length-page-line z s i = length-line (dueAt z i) (lineEffect z s i)
 
-pub length-lines : (z : Sizes) (s : List ℕ) → length (linesPage z s) ≡ 44 * total z
-length-lines z s = length-joined (pageLine z s) 44 (total z) (λ i l. length-page-line z s i)
+-- the length that the buffer must have is the page's own
+pub length-page : (s : List ℕ) → length (sheetPage s) ≡ 44 * designCount s
+unfolding sheetPage designCount
+length-page s = by (headOf (lineAt s 0))
+  where
+    by : (h : Head) → length (headPage h s) ≡ 44 * headCount h
+    by (Sized z) = length-joined (pageLine z s) 44 (total z) (λ i l. length-page-line z s i)
+    by (Unsized n) = refl
 
 pub count-high : (s : List ℕ) → designCount s ≤ 537
 unfolding designCount
