@@ -1,7 +1,7 @@
 // The checks of a call, 13 to 16, and the numbers of a solve and of a cold start.
 ghost use mathlib.Core.Path.{_≡_};
 ghost use mathlib.Core.Bool.{_&&_};
-ghost use Prim.Native.Nat.{_*_};
+ghost use Prim.Native.Nat.{_*_, _<_};
 ghost use lib.ListN.{length};
 ghost use lib.Signed.{leZ};
 ghost use Rattle.gradient.specs.Demand.{startWithin};
@@ -41,7 +41,7 @@ pub fn input_passes(image: &[u8], z: Sizes, v: Input, values: &[u8]) -> bool
 
 // Whether x is within the limits of command k.
 fn is_inside(image: &[u8], z: Sizes, k: usize, x: i64) -> bool
-    requires { ⌜ Whole z (now image) ⌝ }
+    requires { ⌜ Whole z (now image) × (k < commandCount z) ⌝ }
     ensures { λ r. ⌜ r ≡ leZ (lowerAt z (now (image .entry)) k) x && leZ x (upperAt z (now (image .entry)) k) ⌝ }
 {
     if image::lower_at(image, z, k) <= x {

@@ -21,7 +21,7 @@ fn top_word(z: Sizes) -> u64
 
 // Whether P and Y of command i are in the word.
 pub fn point_passes(image: &[u8], z: Sizes, i: usize) -> bool
-    requires { ⌜ Whole z (now image) ⌝ }
+    requires { ⌜ Whole z (now image) × (i < commandCount z) ⌝ }
     ensures { λ r. ⌜ r ≡ pointTest z (now (image .entry)) i ⌝ }
 {
     let most = top_word(z);

@@ -175,8 +175,8 @@ module _ (z : Sizes) (s : List ℕ) (o : Sound z) (p : Passed z s) where
   command-sized : (i : ℕ) → i < commandCount z → SizedCommand (problemAt z s) (commandAt z s i)
   unfolding InWord problemAt commandAt
   command-sized i h = record {
-    lower-word = lower-word z s o (p .words) i;
-    upper-word = upper-word z s o (p .words) i;
+    lower-word = lower-word z s o (p .words) i h;
+    upper-word = upper-word z s o (p .words) i h;
     row-words = tab-all1 (entryAt z s i) (commandCount z) (λ j l. entry-word i j h l);
     gains-words = all1-append (gains State) (gains Target);
     row-length = row-length z s i ∙ sym (commands-length z s);

@@ -2,7 +2,7 @@
 use mathlib.Core.Path.{_≡_, refl, sym, ap, subst, _∙_}
 use mathlib.Core.Bool.{true, cond, _&&_}
 use mathlib.Core.List.{List, _++_, map, append-assoc}
-use Prim.Native.Nat.{ℕ, zero, suc, _+_, _-_, _*_, _%_, _^_, _≤_, _<_}
+use Prim.Native.Nat.{ℕ, zero, suc, _+_, _-_, _*_, _^_, _≤_, _<_}
 use native.Mathlib.Omega.{arith}
 use native.Mathlib.Nat.{zero-add}
 use lib.Dec.{eqb, leb, lit<}
@@ -68,11 +68,11 @@ module _ (z : Sizes) (s t : List ℕ) (e : drop 32 s ≡ drop 32 t) where
 
   lower-same : (k : ℕ) → lowerAt z s k ≡ lowerAt z t k
   unfolding lowerAt
-  lower-same k = word-same (lowerPlace z + 4 * (k % z .nu)) (omega arith)
+  lower-same k = word-same (lowerPlace z + 4 * k) (omega arith)
 
   upper-same : (k : ℕ) → upperAt z s k ≡ upperAt z t k
   unfolding upperAt
-  upper-same k = word-same (upperPlace z + 4 * (k % z .nu)) (omega arith)
+  upper-same k = word-same (upperPlace z + 4 * k) (omega arith)
 
   momentum-same : momentumAt z s ≡ momentumAt z t
   unfolding momentumAt
@@ -122,7 +122,7 @@ module _ (z : Sizes) (s t : List ℕ) (e : drop 32 s ≡ drop 32 t) where
 
   symmetry-same : (i : ℕ) → symmetryTest z s i ≡ symmetryTest z t i
   unfolding symmetryTest
-  symmetry-same i = all-cong (λ (j : ℕ). eqZ (costAt z s i j) (costAt z s j i)) (λ (j : ℕ). eqZ (costAt z t i j) (costAt z t j i)) (commandCount z) (λ j. rw (cost-same i j, cost-same j i))
+  symmetry-same i = all-cong (λ (j : ℕ). eqZ (costAt z s i j) (costAt z s j i)) (λ (j : ℕ). eqZ (costAt z t i j) (costAt z t j i)) (commandCount z) (λ j l. rw (cost-same i j, cost-same j i))
 
   range-same : momentumRange z s ≡ momentumRange z t
   unfolding momentumRange
@@ -149,9 +149,9 @@ module _ (z : Sizes) (s t : List ℕ) (e : drop 32 s ≡ drop 32 t) where
   unfolding bodyNumber
   body-number-same =
       rw (
-        all-cong (wordTest z s) (wordTest z t) (bodyCount z) (λ i. ap (inWord (z .w)) (word-same (4 * (8 + i)) (omega arith))),
-        all-cong (boundTest State z s) (boundTest State z t) (z .nx) (λ j. ap (leZ (pos 0)) (bound-same State j)),
-        all-cong (boundTest Target z s) (boundTest Target z t) (z .nr) (λ j. ap (leZ (pos 0)) (bound-same Target j)),
+        all-cong (wordTest z s) (wordTest z t) (bodyCount z) (λ i l. ap (inWord (z .w)) (word-same (4 * (8 + i)) (omega arith))),
+        all-cong (boundTest State z s) (boundTest State z t) (z .nx) (λ j l. ap (leZ (pos 0)) (bound-same State j)),
+        all-cong (boundTest Target z s) (boundTest Target z t) (z .nr) (λ j l. ap (leZ (pos 0)) (bound-same Target j)),
       )
 
   pub tables-number-same : tablesNumber z s ≡ tablesNumber z t
@@ -159,14 +159,14 @@ module _ (z : Sizes) (s t : List ℕ) (e : drop 32 s ≡ drop 32 t) where
   tables-number-same =
       let n = commandCount z in
       rw (
-        all-cong (orderTest z s) (orderTest z t) n (λ i. rw (lower-same i, upper-same i)),
-        all-cong (symmetryTest z s) (symmetryTest z t) n symmetry-same,
-        all-cong (marginTest z s) (marginTest z t) n (λ i. ap (leZ (pos 1)) (margin-same i)),
-        all-cong (totalTest z s) (totalTest z t) n (λ i. ap (λ (x : ℤ). leZ x (pos (2 ^ z .b))) (total-same i)),
+        all-cong (orderTest z s) (orderTest z t) n (λ i l. rw (lower-same i, upper-same i)),
+        all-cong (symmetryTest z s) (symmetryTest z t) n (λ i l. symmetry-same i),
+        all-cong (marginTest z s) (marginTest z t) n (λ i l. ap (leZ (pos 1)) (margin-same i)),
+        all-cong (totalTest z s) (totalTest z t) n (λ i l. ap (λ (x : ℤ). leZ x (pos (2 ^ z .b))) (total-same i)),
         range-same,
         ratio-same,
-        all-cong (pointTest z s) (pointTest z t) n point-same,
-        all-cong (rowTest z s) (rowTest z t) n row-same,
+        all-cong (pointTest z s) (pointTest z t) n (λ i l. point-same i),
+        all-cong (rowTest z s) (rowTest z t) n (λ i l. row-same i),
       )
 
 -- ---- the image with other sweeps

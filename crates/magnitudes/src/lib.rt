@@ -6,7 +6,7 @@ ghost use mir.Syntax.{w32};
 ghost use mir.Val.{SFits};
 ghost use Rattle.integer.specs.Round.{ceil};
 ghost use Rattle.gradient.specs.Bounds.{magnitude, width, rangeP, rangeY};
-ghost use Rattle.image.specs.Sizes.{Whole};
+ghost use Rattle.image.specs.Sizes.{Whole, commandCount};
 ghost use Rattle.image.specs.Layout.{commandAt, problemAt, momentumAt};
 use image::Sizes;
 
@@ -20,7 +20,7 @@ pub fn size(x: i64) -> u64
 
 // zb of command k: the larger magnitude of its limits.
 fn largest_limit(image: &[u8], z: Sizes, k: usize) -> u64
-    requires { ⌜ Whole z (now image) ⌝ }
+    requires { ⌜ Whole z (now image) × (k < commandCount z) ⌝ }
     ensures { λ r. ⌜ (r ≡ magnitude (commandAt z (now (image .entry)) k)) × (r ≤ 2 ^ 31) ⌝ }
 {
     let low = size(image::lower_at(image, z, k));
@@ -33,7 +33,7 @@ fn largest_limit(image: &[u8], z: Sizes, k: usize) -> u64
 
 // w of command k: its high less its low.
 fn limit_width(image: &[u8], z: Sizes, k: usize) -> u64
-    requires { ⌜ Whole z (now image) ⌝ }
+    requires { ⌜ Whole z (now image) × (k < commandCount z) ⌝ }
     ensures { λ r. ⌜ (r ≡ width (commandAt z (now (image .entry)) k)) × (r < 2 ^ 32) ⌝ }
 {
     integer::magnitude(image::upper_at(image, z, k) - image::lower_at(image, z, k))
@@ -41,7 +41,7 @@ fn limit_width(image: &[u8], z: Sizes, k: usize) -> u64
 
 // zb + β × x / 2^b of command k: P with zb as x, Y with w.
 fn range_bound(image: &[u8], z: Sizes, k: usize, x: u64) -> u64
-    requires { ⌜ Whole z (now image) × (x < 2 ^ 32) ⌝ }
+    requires { ⌜ Whole z (now image) × (k < commandCount z) × (x < 2 ^ 32) ⌝ }
     ensures { λ r. ⌜ r ≡ magnitude (commandAt z (now (image .entry)) k) + ceil (natAbs (momentumAt z (now (image .entry))) * x) (2 ^ z .b) ⌝ }
 {
     let m = size(image::momentum_at(image, z));
@@ -51,7 +51,7 @@ fn range_bound(image: &[u8], z: Sizes, k: usize, x: u64) -> u64
 
 // P of command k.
 pub fn range_p(image: &[u8], z: Sizes, k: usize) -> u64
-    requires { ⌜ Whole z (now image) ⌝ }
+    requires { ⌜ Whole z (now image) × (k < commandCount z) ⌝ }
     ensures { λ r. ⌜ r ≡ rangeP (problemAt z (now (image .entry))) (commandAt z (now (image .entry)) k) ⌝ }
 {
     range_bound(image, z, k, largest_limit(image, z, k))
@@ -59,7 +59,7 @@ pub fn range_p(image: &[u8], z: Sizes, k: usize) -> u64
 
 // Y of command k.
 pub fn range_y(image: &[u8], z: Sizes, k: usize) -> u64
-    requires { ⌜ Whole z (now image) ⌝ }
+    requires { ⌜ Whole z (now image) × (k < commandCount z) ⌝ }
     ensures { λ r. ⌜ r ≡ rangeY (problemAt z (now (image .entry))) (commandAt z (now (image .entry)) k) ⌝ }
 {
     range_bound(image, z, k, limit_width(image, z, k))

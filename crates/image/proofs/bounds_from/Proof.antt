@@ -50,10 +50,10 @@ add-result-6 : tie.Need-add-result-6
 add-result-6 c = search needs
 
 returns : tie.Need-returns
-returns c = rw (c .before .enum-told .given .1) (omega arith, omega arith)
+returns c = rw (c .enum-told .given .1) (omega arith, omega arith)
 
 returns-2 : tie.Need-returns-2
-returns-2 c = rw (c .before .before .before .enum-told2 .given .1) (omega arith, omega arith)
+returns-2 c = rw (c .before .before .enum-told2 .given .1) (omega arith, omega arith)
 
 pub bounds-from-spec : {M : Type 1} → statement M
 bounds-from-spec =

@@ -45,7 +45,7 @@ returns : tie.Need-returns
 returns c = rw (c .enum-told .given .1) (refl, omega arith)
 
 returns-2 : tie.Need-returns-2
-returns-2 c = rw (c .before .before .before .enum-told2 .given .1) (omega (arith, c .before .before .lower-place .ensures .0), omega (arith, c .before .before .lower-place .ensures .1))
+returns-2 c = rw (c .before .before .enum-told2 .given .1) (omega (arith, c .before .lower-place .ensures .0), omega (arith, c .before .lower-place .ensures .1))
 
 pub gains-from-spec : {M : Type 1} → statement M
 gains-from-spec =

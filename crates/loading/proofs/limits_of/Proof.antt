@@ -65,10 +65,10 @@ loop-holds c =
     (none (pos 0) (λ k x. x ≡ lowerAt (a .args .z) (a .args .image .now) k) n _ (c .before .before .blank .ensures), (none (pos 0) (λ k x. x ≡ upperAt (a .args .z) (a .args .image .now) k) n _ (c .before .blank2 .ensures), none 0 (λ k x. x ≡ widthAt (a .args .z) (a .args .image .now) k) n _ (c .blank-errors .ensures .sized)))
 
 lower-at-requires : tie.Need-lower-at-requires Inv-loop μ-loop
-lower-at-requires c κs = c .before .before .before .before .before .before .before .pre
+lower-at-requires c κs = (c .before .before .before .before .before .before .before .pre, omega arith)
 
 upper-at-requires : tie.Need-upper-at-requires Inv-loop μ-loop
-upper-at-requires c κs = c .before .before .before .before .before .before .before .before .pre
+upper-at-requires c κs = (c .before .before .before .before .before .before .before .before .pre, omega arith)
 
 mul-lower : tie.Need-mul-lower Inv-loop μ-loop
 mul-lower c = omega arith

@@ -49,7 +49,8 @@ entry-requires : tie.Need-entry-requires
 entry-requires c κs = (omega arith, long (c .before .before .before .before))
 
 range-y-requires : tie.Need-range-y-requires
-range-y-requires c κs = search needs
+unfolding termCount
+range-y-requires c κs = let r = range-ready (c .before) in (r .0 .whole, r .1)
 
 scaled-requires : tie.Need-scaled-requires
 unfolding TermRoom termCount

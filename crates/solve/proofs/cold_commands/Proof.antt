@@ -30,10 +30,10 @@ loop-holds c =
     none (pos 0) (λ k x. x ≡ coldAt (a .z) (a .image .now) k) (commandCount (a .z)) (c .blank .result) (c .blank .ensures)
 
 lower-at-requires : tie.Need-lower-at-requires Inv-loop μ-loop
-lower-at-requires c κs = c .before .before .before .before .before .pre
+lower-at-requires c κs = (c .before .before .before .before .before .pre, omega arith)
 
 upper-at-requires : tie.Need-upper-at-requires Inv-loop μ-loop
-upper-at-requires c κs = c .before .before .before .before .before .before .pre
+upper-at-requires c κs = (c .before .before .before .before .before .before .pre, omega arith)
 
 clamp-requires : tie.Need-clamp-requires Inv-loop μ-loop
 clamp-requires c κs = tt
