@@ -42,7 +42,7 @@ pub total-is : (z : Sizes) → total z ≡ bodyCount z
 unfolding total
 total-is z = omega arith
 
-pub total-high : (z : Sizes) → Sound z → total z ≤ 537
+pub total-high : (z : Sizes) → Sound z → total z ≤ 561
 total-high z o = omega (arith, total-is z)
 
 -- a place behind the last table but one is in the last
@@ -61,10 +61,10 @@ module _ (z : Sizes) (i : ℕ) where
   past3 = past2 - n * z .nx
 
   abbrev pub past4 : ℕ
-  past4 = past3 - z .nu
+  past4 = past3 - n
 
   abbrev pub past5 : ℕ
-  past5 = past4 - z .nu
+  past5 = past4 - n
 
   abbrev pub past6 : ℕ
   past6 = past5 - 1
@@ -78,8 +78,8 @@ module _ (z : Sizes) (i : ℕ) where
   pub flat : dueAt z i ≡
       cond (ltb i (n * n)) (due 2 (i / n) (i % n))
       (cond (ltb past2 (n * z .nx)) (due 3 (past2 / z .nx) (past2 % z .nx))
-      (cond (ltb past3 (z .nu)) (due 4 past3 0)
-      (cond (ltb past4 (z .nu)) (due 5 past4 0)
+      (cond (ltb past3 n) (due 4 (past3 % z .nu) (past3 / z .nu))
+      (cond (ltb past4 n) (due 5 (past4 % z .nu) (past4 / z .nu))
       (cond (ltb past5 1) (due 6 past5 0)
       (cond (ltb past6 (z .nx)) (due 7 past6 0)
       (cond (ltb past7 (n * z .nr)) (due 8 (past7 / z .nr) (past7 % z .nr))
@@ -96,20 +96,20 @@ module _ (z : Sizes) (i : ℕ) where
     due-3 b = rw (flat, le-ltb i (n * n) a, lt-ltb past2 (n * z .nx) b)
 
     module _ (b : n * z .nx ≤ past2) where
-      pub due-4 : past3 < z .nu → due 4 past3 0 ≡ dueAt z i
-      due-4 c = rw (flat, le-ltb i (n * n) a, le-ltb past2 (n * z .nx) b, lt-ltb past3 (z .nu) c)
+      pub due-4 : past3 < n → due 4 (past3 % z .nu) (past3 / z .nu) ≡ dueAt z i
+      due-4 c = rw (flat, le-ltb i (n * n) a, le-ltb past2 (n * z .nx) b, lt-ltb past3 n c)
 
-      module _ (c : z .nu ≤ past3) where
-        pub due-5 : past4 < z .nu → due 5 past4 0 ≡ dueAt z i
-        due-5 d = rw (flat, le-ltb i (n * n) a, le-ltb past2 (n * z .nx) b, le-ltb past3 (z .nu) c, lt-ltb past4 (z .nu) d)
+      module _ (c : n ≤ past3) where
+        pub due-5 : past4 < n → due 5 (past4 % z .nu) (past4 / z .nu) ≡ dueAt z i
+        due-5 d = rw (flat, le-ltb i (n * n) a, le-ltb past2 (n * z .nx) b, le-ltb past3 n c, lt-ltb past4 n d)
 
-        module _ (d : z .nu ≤ past4) where
+        module _ (d : n ≤ past4) where
           late : dueAt z i ≡
               cond (ltb past5 1) (due 6 past5 0)
               (cond (ltb past6 (z .nx)) (due 7 past6 0)
               (cond (ltb past7 (n * z .nr)) (due 8 (past7 / z .nr) (past7 % z .nr))
               (cond (ltb past8 (z .nr)) (due 9 past8 0) (due 0 0 0))))
-          late = rw (flat, le-ltb i (n * n) a, le-ltb past2 (n * z .nx) b, le-ltb past3 (z .nu) c, le-ltb past4 (z .nu) d)
+          late = rw (flat, le-ltb i (n * n) a, le-ltb past2 (n * z .nx) b, le-ltb past3 n c, le-ltb past4 n d)
 
           pub due-6 : past5 < 1 → due 6 0 0 ≡ dueAt z i
           due-6 e = rw (late, lt-ltb past5 1 e) (ap (λ (r : ℕ). due 6 r 0) (omega arith))
@@ -124,7 +124,7 @@ module _ (z : Sizes) (i : ℕ) where
 
               pub due-9 : n * z .nr ≤ past7 → i < total z → due 9 past8 0 ≡ dueAt z i
               due-9 g l =
-                  let h : past8 < z .nr = last-part past7 (n * z .nr) (z .nr) (n * n + n * z .nx + 2 * z .nu + 1 + z .nx) i g (omega arith) (omega (arith, total-is z)) in
+                  let h : past8 < z .nr = last-part past7 (n * z .nr) (z .nr) (n * n + n * z .nx + 2 * n + 1 + z .nx) i g (omega arith) (omega (arith, total-is z)) in
                   rw (late, le-ltb past5 1 e, le-ltb past6 (z .nx) f, le-ltb past7 (n * z .nr) g, lt-ltb past8 (z .nr) h)
 
 -- a table with a line has columns

@@ -1,9 +1,9 @@
--- The lines due, by their place, are the tables' lines one after the other, rows outermost. Assumes nothing.
+-- The lines due, by their place, are the tables' lines one after the other, each in its own order. Assumes nothing.
 use mathlib.Core.Path.{_≡_, refl, sym, ap, _∙_, subst}
 use mathlib.Core.Bool.{Bool, true, false, cond}
 use mathlib.Core.List.{List, [], _∷_, _++_}
 use Prim.Native.Nat.{ℕ, zero, suc, _+_, _-_, _*_, _/_, _%_, _<_}
-use native.Mathlib.Nat.{suc-mul, zero-mul, mul-add-div-right, mul-add-mod-self-right, mod-eq-of-lt, div-eq-of-lt, add-zero}
+use native.Mathlib.Nat.{suc-mul, zero-mul, mul-comm, mul-add-div-right, mul-add-mod-self-right, mod-eq-of-lt, div-eq-of-lt, add-zero}
 use native.Mathlib.Omega.{arith}
 use lib.Dec.{ltb}
 use lib.ListN.{length, getD, length-append, List·getD-append}
@@ -13,62 +13,78 @@ use Rattle.gradient.specs.Index.{tab}
 use Rattle.gradient.proofs.Index.{tab-length, tab-at}
 use Rattle.image.specs.declared.Sizes.{Sizes}
 use Rattle.frame.specs.declared.Due.{Due}
-use Rattle.frame.specs.Frame.{Table, countIn, due, dueAt, dueIn, tables, total}
-use Rattle.frame.specs.Laws.{tableLines, tablesLines}
+use Rattle.frame.specs.Frame.{Table, countIn, due, dueAt, dueIn, lineOf, tables, total}
+use Rattle.frame.specs.Laws.{nested, tableLines, tablesLines}
 
 abbrev no : Due
 no = due 0 0 0
 
-table-length : (k r c : ℕ) → length (tableLines k r c) ≡ r * c
-table-length k zero c = sym (zero-mul c)
-table-length k (suc r) c =
-    let e = table-length k r c in
-    let row : ℕ → Due = λ j. due k r j in
-    omega (arith, length-append (tableLines k r c) (tab row c), tab-length row c, suc-mul r c)
+-- an inner number after the other, for each outer one
+module _ (f : ℕ → ℕ → Due) where
+  nested-length : (o w : ℕ) → length (nested f o w) ≡ o * w
+  nested-length zero w = sym (zero-mul w)
+  nested-length (suc o) w = let e = nested-length o w in omega (arith, length-append (nested f o w) (tab (f o) w), tab-length (f o) w, suc-mul o w)
 
-table-at : (k r c i : ℕ) → i < r * c → getD (tableLines k r c) i no ≡ due k (i / c) (i % c)
-table-at k zero c i h = let x : ⊥ = omega (arith, zero-mul c) in absurd x
-table-at k (suc r) c i h = by (λ l. table-at k r c i l) (ltb i (r * c)) refl
-  where
-    row : ℕ → Due
-    row j = due k r j
+  nested-at : (o w i : ℕ) → i < o * w → getD (nested f o w) i no ≡ f (i / w) (i % w)
+  nested-at zero w i h = let x : ⊥ = omega (arith, zero-mul w) in absurd x
+  nested-at (suc o) w i h = by (λ l. nested-at o w i l) (ltb i (o * w)) refl
+    where
+      by : (i < o * w → getD (nested f o w) i no ≡ f (i / w) (i % w)) → (t : Bool) → ltb i (o * w) ≡ t → getD (nested f o w ++ tab (f o) w) i no ≡ f (i / w) (i % w)
+      by again true e =
+          let l = ltb-true i (o * w) e in
+          List·getD-append (nested f o w) (tab (f o) w) no i (omega (arith, nested-length o w)) ∙ again l
+      by again false e =
+          let l = ltb-false i (o * w) e in
+          let j : length (nested f o w) + (i - o * w) ≡ i = omega (arith, nested-length o w) in
+          let inside : i - o * w < w = omega (arith, suc-mul o w) in
+          let some : 0 < w = omega arith in
+          let is : o * w + (i - o * w) ≡ i = omega arith in
+          let q : i / w ≡ o = ap (λ (m : ℕ). m / w) (sym is) ∙ mul-add-div-right some o (i - o * w) ∙ ap (λ (m : ℕ). o + m) (div-eq-of-lt inside) ∙ add-zero o in
+          let p : i % w ≡ i - o * w = ap (λ (m : ℕ). m % w) (sym is) ∙ mul-add-mod-self-right o w (i - o * w) ∙ mod-eq-of-lt inside in
+          subst (λ (m : ℕ). getD (nested f o w ++ tab (f o) w) m no ≡ f o (i - o * w)) j
+          (getD-append-add (nested f o w) (tab (f o) w) (i - o * w) no ∙ tab-at (f o) w (i - o * w) no inside)
+          ∙ rw (q, p)
 
-    by : (i < r * c → getD (tableLines k r c) i no ≡ due k (i / c) (i % c)) → (t : Bool) → ltb i (r * c) ≡ t → getD (tableLines k r c ++ tab row c) i no ≡ due k (i / c) (i % c)
-    by again true e =
-        let l = ltb-true i (r * c) e in
-        List·getD-append (tableLines k r c) (tab row c) no i (omega (arith, table-length k r c)) ∙ again l
-    by again false e =
-        let l = ltb-false i (r * c) e in
-        let j : length (tableLines k r c) + (i - r * c) ≡ i = omega (arith, table-length k r c) in
-        let inside : i - r * c < c = omega (arith, suc-mul r c) in
-        let some : 0 < c = omega arith in
-        let is : r * c + (i - r * c) ≡ i = omega arith in
-        let q : i / c ≡ r = ap (λ (m : ℕ). m / c) (sym is) ∙ mul-add-div-right some r (i - r * c) ∙ ap (λ (m : ℕ). r + m) (div-eq-of-lt inside) ∙ add-zero r in
-        let p : i % c ≡ i - r * c = ap (λ (m : ℕ). m % c) (sym is) ∙ mul-add-mod-self-right r c (i - r * c) ∙ mod-eq-of-lt inside in
-        subst (λ (m : ℕ). getD (tableLines k r c ++ tab row c) m no ≡ due k r (i - r * c)) j
-        (getD-append-add (tableLines k r c) (tab row c) (i - r * c) no ∙ tab-at row c (i - r * c) no inside)
-        ∙ rw (q, p)
+-- the lines of a table, in either order
+module _ (k r c : ℕ) where
+  abbrev byRow : ℕ → ℕ → Due
+  byRow row column = due k row column
 
-pub tables-length : (ks : List Table) → length (tablesLines ks) ≡ countIn ks
+  abbrev byColumn : ℕ → ℕ → Due
+  byColumn column row = due k row column
+
+  either-length : (m : Bool) → length (cond m (nested byColumn c r) (nested byRow r c)) ≡ r * c
+  either-length true = nested-length byColumn c r ∙ mul-comm c r
+  either-length false = nested-length byRow r c
+
+  either-at : (m : Bool) (i : ℕ) → i < r * c → getD (cond m (nested byColumn c r) (nested byRow r c)) i no ≡ cond m (due k (i % r) (i / r)) (due k (i / c) (i % c))
+  either-at true i h = nested-at byColumn c r i (subst (λ (n : ℕ). i < n) (mul-comm r c) h)
+  either-at false i h = nested-at byRow r c i h
+
+module _ (t : Table) where
+  table-length : length (tableLines t) ≡ t .rows * t .columns
+  table-length = either-length (t .kind) (t .rows) (t .columns) (t .columnMajor)
+
+  table-at : (i : ℕ) → i < t .rows * t .columns → getD (tableLines t) i no ≡ lineOf t i
+  table-at i h = either-at (t .kind) (t .rows) (t .columns) (t .columnMajor) i h
+
+pub tables-length : (ts : List Table) → length (tablesLines ts) ≡ countIn ts
 tables-length [] = refl
-tables-length (k ∷ ks) = let e = tables-length ks in omega (arith, length-append (tableLines (k .kind) (k .rows) (k .columns)) (tablesLines ks), table-length (k .kind) (k .rows) (k .columns))
+tables-length (t ∷ ts) = let e = tables-length ts in omega (arith, length-append (tableLines t) (tablesLines ts), table-length t)
 
-pub tables-at : (ks : List Table) (i : ℕ) → i < countIn ks → getD (tablesLines ks) i no ≡ dueIn ks i
+pub tables-at : (ts : List Table) (i : ℕ) → i < countIn ts → getD (tablesLines ts) i no ≡ dueIn ts i
 tables-at [] i h = refl
-tables-at (k ∷ ks) i h = by (λ l. tables-at ks (i - k .rows * k .columns) l) (ltb i (k .rows * k .columns)) refl
+tables-at (t ∷ ts) i h = by (λ l. tables-at ts (i - t .rows * t .columns) l) (ltb i (t .rows * t .columns)) refl
   where
-    t : List Due
-    t = tableLines (k .kind) (k .rows) (k .columns)
-
-    by : (i - k .rows * k .columns < countIn ks → getD (tablesLines ks) (i - k .rows * k .columns) no ≡ dueIn ks (i - k .rows * k .columns)) → (b : Bool) → ltb i (k .rows * k .columns) ≡ b → getD (t ++ tablesLines ks) i no ≡ cond b (due (k .kind) (i / k .columns) (i % k .columns)) (dueIn ks (i - k .rows * k .columns))
+    by : (i - t .rows * t .columns < countIn ts → getD (tablesLines ts) (i - t .rows * t .columns) no ≡ dueIn ts (i - t .rows * t .columns)) → (b : Bool) → ltb i (t .rows * t .columns) ≡ b → getD (tableLines t ++ tablesLines ts) i no ≡ cond b (lineOf t i) (dueIn ts (i - t .rows * t .columns))
     by again true e =
-        let l = ltb-true i (k .rows * k .columns) e in
-        List·getD-append t (tablesLines ks) no i (omega (arith, table-length (k .kind) (k .rows) (k .columns))) ∙ table-at (k .kind) (k .rows) (k .columns) i l
+        let l = ltb-true i (t .rows * t .columns) e in
+        List·getD-append (tableLines t) (tablesLines ts) no i (omega (arith, table-length t)) ∙ table-at t i l
     by again false e =
-        let l = ltb-false i (k .rows * k .columns) e in
-        let j : length t + (i - k .rows * k .columns) ≡ i = omega (arith, table-length (k .kind) (k .rows) (k .columns)) in
-        subst (λ (m : ℕ). getD (t ++ tablesLines ks) m no ≡ dueIn ks (i - k .rows * k .columns)) j
-        (getD-append-add t (tablesLines ks) (i - k .rows * k .columns) no ∙ again (omega arith))
+        let l = ltb-false i (t .rows * t .columns) e in
+        let j : length (tableLines t) + (i - t .rows * t .columns) ≡ i = omega (arith, table-length t) in
+        subst (λ (m : ℕ). getD (tableLines t ++ tablesLines ts) m no ≡ dueIn ts (i - t .rows * t .columns)) j
+        (getD-append-add (tableLines t) (tablesLines ts) (i - t .rows * t .columns) no ∙ again (omega arith))
 
 pub listed : (z : Sizes) → tab (dueAt z) (total z) ≡ tablesLines (tables z)
 unfolding dueAt total

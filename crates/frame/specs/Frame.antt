@@ -1,6 +1,6 @@
 -- Document 01, "The design sheet": what line 01 gives, the lines due after it, and the word of a line's double. Definitions only.
 use Prim.Native.Nat.{ℕ, _+_, _-_, _*_, _/_, _%_, _≤_, _<_}
-use mathlib.Core.Bool.{Bool, false, _&&_, _||_, cond}
+use mathlib.Core.Bool.{Bool, true, false, _&&_, _||_, cond}
 use mathlib.Core.List.{List, [], _∷_}
 use lib.Dec.{leb, ltb, eqb}
 use lib.IntN.{ℤ, pos, negsuc}
@@ -48,25 +48,30 @@ headOf (Frame kind row column bits) =
 
 -- ---- the lines due after it
 
--- a "table": the kind of its lines, and how many rows and columns it has
+-- a "table": the kind of its lines, how many rows and columns it has, and whether the columns go outermost
 pub record Table : Type 0 where
   pub kind : ℕ
   pub rows : ℕ
   pub columns : ℕ
+  pub columnMajor : Bool
 
--- the table of a kind, r "by" c
+-- the table of a kind, r "by" c, "rows outermost"
 abbrev pub table : ℕ → ℕ → ℕ → Table
-table k r c = record { kind = k; rows = r; columns = c }
+table k r c = record { kind = k; rows = r; columns = c; columnMajor = false }
 
--- "02: cost table H, n by n. 03: state table Φ, n by nx. 04 low limit and 05 high limit, row the motor, column 0; all 04 first. 06 step
--- factor β, row and column 0. 07 state limit, row the state, column 0." "After 07 come kind 08, a target table of n by nr, .. and kind 09,
--- target limits, treated as 07"
+-- the limits of a kind: row the motor, "the column as the step", "steps outermost and motors within"
+abbrev pub limitTable : ℕ → ℕ → ℕ → Table
+limitTable k nu steps = record { kind = k; rows = nu; columns = steps; columnMajor = true }
+
+-- "02: cost table H, n by n. 03: state table Φ, n by nx. 04 low limit and 05 high limit, row the motor", "the column as the step, 0 to N − 1";
+-- "all 04 still come first". "06 step factor β, row and column 0. 07 state limit, row the state, column 0." "After 07 come kind 08, a target
+-- table of n by nr, .. and kind 09, target limits, treated as 07"
 abbrev pub tables : Sizes → List Table
 tables z =
     table 2 (commandCount z) (commandCount z)
     ∷ table 3 (commandCount z) (z .nx)
-    ∷ table 4 (z .nu) 1
-    ∷ table 5 (z .nu) 1
+    ∷ limitTable 4 (z .nu) (z .steps)
+    ∷ limitTable 5 (z .nu) (z .steps)
     ∷ table 6 1 1
     ∷ table 7 (z .nx) 1
     ∷ table 8 (commandCount z) (z .nr)
@@ -82,11 +87,14 @@ countIn (t ∷ ts) = t .rows * t .columns + countIn ts
 abbrev pub due : ℕ → ℕ → ℕ → Due
 due k r c = record { kind = k; row = r; column = c }
 
--- line i of some tables, "rows outermost, all counted from 0"
+-- line i of a table, "all counted from 0"
+abbrev pub lineOf : Table → ℕ → Due
+lineOf t i = cond (t .columnMajor) (due (t .kind) (i % t .rows) (i / t .rows)) (due (t .kind) (i / t .columns) (i % t .columns))
+
+-- line i of some tables, one after the other
 abbrev pub dueIn : List Table → ℕ → Due
 dueIn [] i = due 0 0 0
-dueIn (t ∷ ts) i =
-    cond (ltb i (t .rows * t .columns)) (due (t .kind) (i / t .columns) (i % t .columns)) (dueIn ts (i - t .rows * t .columns))
+dueIn (t ∷ ts) i = cond (ltb i (t .rows * t .columns)) (lineOf t i) (dueIn ts (i - t .rows * t .columns))
 
 -- how many lines are due after line 01
 unfoldable pub total : Sizes → ℕ
@@ -101,7 +109,11 @@ unfoldable pub lowBase : Sizes → ℕ
 lowBase z = commandCount z * commandCount z + commandCount z * z .nx
 
 abbrev pub isLow : Sizes → ℕ → Type 0
-isLow z k = (lowBase z ≤ k) × (k < lowBase z + z .nu)
+isLow z k = (lowBase z ≤ k) × (k < lowBase z + commandCount z)
+
+-- the highs follow, as many
+abbrev pub isHigh : Sizes → ℕ → Type 0
+isHigh z k = (lowBase z + commandCount z ≤ k) × (k < lowBase z + commandCount z + commandCount z)
 
 -- ---- one such line
 

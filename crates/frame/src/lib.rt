@@ -93,14 +93,14 @@ pub fn due_at(z: Sizes, i: usize) -> Due
     }
     let i = i - n * nx;
     let nu = z.nu;
-    if i < nu {
-        return frame_due(4, i, 0);
+    if i < n {
+        return frame_due(4, i % nu, i / nu);
     }
-    let i = i - nu;
-    if i < nu {
-        return frame_due(5, i, 0);
+    let i = i - n;
+    if i < n {
+        return frame_due(5, i % nu, i / nu);
     }
-    let i = i - nu;
+    let i = i - n;
     if i < 1 {
         return frame_due(6, 0, 0);
     }

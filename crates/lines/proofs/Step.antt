@@ -3,11 +3,11 @@ use mathlib.Core.Path.{_≡_, refl, sym, ap, _∙_, subst}
 use mathlib.Core.Bool.{Bool, true, false, not, _&&_, cond, false≢true}
 use mathlib.Core.List.{List}
 use mathlib.Core.Logic.{⊎-elim}
-use Prim.Native.Nat.{ℕ, _+_, _-_, _*_, _<_}
+use Prim.Native.Nat.{ℕ, _+_, _-_, _*_, _/_, _%_, _<_}
 use lib.IntN.{ℤ, pos}
 use lib.Dec.{T}
 use lib.Ieee.{Float, nan, inf, fin, isNan}
-use native.Mathlib.Nat.{eq-or-lt-of-le, le-of-suc-le-suc}
+use native.Mathlib.Nat.{eq-or-lt-of-le, le-of-suc-le-suc, mul-comm, mod-lt, div-lt-iff-lt-mul, div-add-mod'}
 use native.Mathlib.Numerals.{add-one}
 use native.Mathlib.Omega.{arith}
 use lib.ListN.{length, getD, set, length-set}
@@ -19,17 +19,17 @@ use Rattle.double.specs.declared.LimitWords.the-variants.{Pair, NoPair}
 use Rattle.double.specs.declared.Limits.{Limits}
 use Rattle.double.proofs.Convert.{convert-word}
 use Rattle.image.specs.declared.Sizes.{Sizes}
-use Rattle.image.specs.Sizes.{Sound}
+use Rattle.image.specs.Sizes.{Sound, commandCount}
 use Rattle.line.specs.Line.{lineAt}
 use Rattle.line.specs.declared.Line.{Line}
 use Rattle.frame.specs.declared.Due.{Due}
 use Rattle.frame.specs.declared.Value.{Value}
 use Rattle.frame.specs.declared.Value.the-variants.{Double, Fault}
-use Rattle.frame.specs.Frame.{convertedWord, dueAt, isLow, lowBase, total, valueDouble, valueNumber, valueOf, wordOf}
+use Rattle.frame.specs.Frame.{convertedWord, due, dueAt, isLow, lowBase, total, valueDouble, valueNumber, valueOf, wordOf}
 use Rattle.frame.proofs.Laws.{total-high}
 use Rattle.frame.proofs.Limits.{high-due, high-of, low-due, low-of}
 use Rattle.frame.proofs.Word.{fault-some, is-word, kind-4, kind-5, nan-refused}
-use Rattle.lines.specs.Lines.{lineDouble, lineFault, lineValue, lineWord, ReadTo}
+use Rattle.lines.specs.Lines.{commandOf, lineDouble, lineFault, lineValue, lineWord, ReadTo}
 
 -- ---- what a line holds
 module _ (z : Sizes) (s : List ℕ) (i : ℕ) where
@@ -64,7 +64,16 @@ module _ (z : Sizes) (s : List ℕ) (i : ℕ) where
       by (Double (fin t m k)) e h = tt
       by (Fault n) e h = absurd (fault-none n e h)
 
--- ---- both limits of a motor
+-- ---- both limits of a command
+
+-- a line's row is a motor, its column a step, and the two are command k
+abbrev pub OfCommand : Sizes → Due → ℕ → Type 0
+OfCommand z d k = (d .row < z .nu) × (d .column < z .steps) × (commandOf z d ≡ k)
+
+pub of-command : (z : Sizes) → Sound z → (d : Due) (kind k : ℕ) → d ≡ due kind (k % z .nu) (k / z .nu) → k < commandCount z → OfCommand z d k
+of-command z o d kind k e h =
+    rw e (mod-lt k (o .nu-low), div-lt-iff-lt-mul (o .nu-low) .1 (subst (λ (n : ℕ). k < n) (mul-comm (z .nu) (z .steps)) h), div-add-mod' k (z .nu))
+
 module _ (z : Sizes) (s : List ℕ) (k : ℕ) where
   pub passed-word : (g : Value) → lineValue z s k ≡ g → valueNumber z (dueAt z k .kind) g ≡ 0 → wordOf z (dueAt z k .kind) (valueDouble g) ≡ Word (convertedWord (wordOf z (dueAt z k .kind) (valueDouble g)))
   passed-word (Double x) e h = is-word (wordOf z (dueAt z k .kind) x) h
@@ -85,19 +94,19 @@ pair-none p false u v e h = refl
 pair-none true true u v e h = let x : _≡_ {A = ℕ} 0 1 = cc in let y : ⊥ = omega arith in absurd y
 pair-none false true u v e h = absurd (false≢true h)
 
--- the words of a motor's limits, from what rounding them inward gives
-module _ (z : Sizes) (s : List ℕ) (i : ℕ) (ws : List ℤ) (ls : List Float) (o : Sound z) (r : ReadTo z s i ws ls) (k5 : dueAt z i .kind ≡ 5) (x : Float) (g : lineValue z s i ≡ Double x) (row : ℕ) (is : row ≡ i - lowBase z - z .nu) where
-  lower : convert roundUp (z .b) (z .w) (getD ls row nan) ≡ Word (lineWord z s (i - z .nu))
+-- the words of a command's limits, from what rounding them inward gives
+module _ (z : Sizes) (s : List ℕ) (i : ℕ) (ws : List ℤ) (ls : List Float) (o : Sound z) (r : ReadTo z s i ws ls) (k5 : dueAt z i .kind ≡ 5) (x : Float) (g : lineValue z s i ≡ Double x) (row : ℕ) (is : row ≡ i - lowBase z - commandCount z) where
+  lower : convert roundUp (z .b) (z .w) (getD ls row nan) ≡ Word (lineWord z s (i - commandCount z))
   lower =
       let h = high-of z i k5 in
-      let e : lowBase z + row ≡ i - z .nu = omega arith in
-      let d : getD ls row nan ≡ lineDouble z s (i - z .nu) = r .kept row (omega arith) (omega (arith, o .nu-low)) ∙ ap (lineDouble z s) e in
-      rw d (low-word z s (i - z .nu) (omega arith) (r .passed (i - z .nu) (omega (arith, o .nu-low))))
+      let e : lowBase z + row ≡ i - commandCount z = omega arith in
+      let d : getD ls row nan ≡ lineDouble z s (i - commandCount z) = r .kept row (omega arith) (omega (arith, o .n-low)) ∙ ap (lineDouble z s) e in
+      rw d (low-word z s (i - commandCount z) (omega arith) (r .passed (i - commandCount z) (omega (arith, o .n-low))))
 
   abbrev limits : Limits
   limits = record { low = getD ls row nan; high = x }
 
-  pub pair-words : (a b : ℤ) → Pair a b ≡ convertLimits (z .b) (z .w) limits → (lineWord z s (i - z .nu) ≡ a) × (lineWord z s i ≡ b) × (lineFault z s i ≡ 0)
+  pub pair-words : (a b : ℤ) → Pair a b ≡ convertLimits (z .b) (z .w) limits → (lineWord z s (i - commandCount z) ≡ a) × (lineWord z s i ≡ b) × (lineFault z s i ≡ 0)
   pair-words a b e =
       let p = pair-both (accepted roundUp (z .b) (z .w) (getD ls row nan)) (accepted roundDown (z .b) (z .w) x) e in
       let w = fault-word z s i x (rounded roundDown (z .b) x) g (kind-5 z (dueAt z i .kind) x k5 ∙ rw (p .1)) in
@@ -129,7 +138,7 @@ module _ (z : Sizes) (s : List ℕ) (i : ℕ) (ws : List ℤ) (ls : List Float) 
         (λ k h n. getD-set-other ws (8 + i) (8 + k) v (pos 0) (λ (q : 8 + k ≡ 8 + i). omega arith) ∙ r .single k h n)
         (λ n. getD-set-same ws (8 + i) v (pos 0) room-for ∙ sym e);
     paired = λ k l h.
-        let m : k + z .nu < i = before (k + z .nu) i h (λ (q : k + z .nu ≡ i). n5 (ap (λ (d : Due). d .kind) (high-due z i (omega arith) (omega arith)))) in
+        let m : k + commandCount z < i = before (k + commandCount z) i h (λ (q : k + commandCount z ≡ i). n5 (ap (λ (d : Due). d .kind) (high-due z i (omega arith)))) in
         getD-set-other ws (8 + i) (8 + k) v (pos 0) (λ (q : 8 + k ≡ 8 + i). omega arith) ∙ r .paired k l m;
     kept = λ j g h. r .kept j g (before (lowBase z + j) i h (λ (q : lowBase z + j ≡ i). n4 (ap (λ (d : Due). d .kind) (low-due z i (omega arith)))));
   }
@@ -148,35 +157,35 @@ module _ (z : Sizes) (s : List ℕ) (i : ℕ) (ws : List ℤ) (ls : List Float) 
             ⊎-elim
             (λ (q : lowBase z + j ≡ i).
             let same : j ≡ row = omega arith in
-            let inside : row < length ls = omega (arith, r .room, o .nu-high) in
+            let inside : row < length ls = omega (arith, r .room, o .n-high) in
             rw (same, getD-set-same ls row x nil inside) (sym e ∙ ap (lineDouble z s) (omega arith)))
             (λ (l : lowBase z + j < i). getD-set-other ls row j x nil (λ (q : j ≡ row). omega arith) ∙ r .kept j g l)
             (eq-or-lt-of-le (le-of-suc-le-suc (subst (λ (m : ℕ). lowBase z + j < m) (add-one i) h)));
       }
 
-  pub step-pair : (a b : ℤ) → lineWord z s (i - z .nu) ≡ a → lineWord z s i ≡ b → dueAt z i .kind ≡ 5 → ReadTo z s (i + 1) (set (set ws (8 + i - z .nu) a) (8 + i) b) ls
+  pub step-pair : (a b : ℤ) → lineWord z s (i - commandCount z) ≡ a → lineWord z s i ≡ b → dueAt z i .kind ≡ 5 → ReadTo z s (i + 1) (set (set ws (8 + i - commandCount z) a) (8 + i) b) ls
   step-pair a b ea eb k5 =
       let h5 = high-of z i k5 in
-      let at : 8 + i - z .nu ≡ 8 + (i - z .nu) = omega arith in
-      let inside : 8 + i < length (set ws (8 + i - z .nu) a) = omega (arith, length-set ws (8 + i - z .nu) a, room-for) in
+      let at : 8 + i - commandCount z ≡ 8 + (i - commandCount z) = omega arith in
+      let inside : 8 + i < length (set ws (8 + i - commandCount z) a) = omega (arith, length-set ws (8 + i - commandCount z) a, room-for) in
       record {
-        size = length-set (set ws (8 + i - z .nu) a) (8 + i) b ∙ length-set ws (8 + i - z .nu) a ∙ r .size;
+        size = length-set (set ws (8 + i - commandCount z) a) (8 + i) b ∙ length-set ws (8 + i - commandCount z) a ∙ r .size;
         room = r .room;
         passed = below-more (λ (k : ℕ). lineFault z s k ≡ 0) i (r .passed) f;
-        head = λ k h. getD-set-other (set ws (8 + i - z .nu) a) (8 + i) k b (pos 0) (λ (q : k ≡ 8 + i). omega arith) ∙ getD-set-other ws (8 + i - z .nu) k a (pos 0) (λ (q : k ≡ 8 + i - z .nu). omega arith) ∙ r .head k h;
-        single = below-more (λ (k : ℕ). (isLow z k → ⊥) → getD (set (set ws (8 + i - z .nu) a) (8 + i) b) (8 + k) (pos 0) ≡ lineWord z s k) i
+        head = λ k h. getD-set-other (set ws (8 + i - commandCount z) a) (8 + i) k b (pos 0) (λ (q : k ≡ 8 + i). omega arith) ∙ getD-set-other ws (8 + i - commandCount z) k a (pos 0) (λ (q : k ≡ 8 + i - commandCount z). omega arith) ∙ r .head k h;
+        single = below-more (λ (k : ℕ). (isLow z k → ⊥) → getD (set (set ws (8 + i - commandCount z) a) (8 + i) b) (8 + k) (pos 0) ≡ lineWord z s k) i
             (λ k h n.
-            getD-set-other (set ws (8 + i - z .nu) a) (8 + i) (8 + k) b (pos 0) (λ (q : 8 + k ≡ 8 + i). omega arith)
-            ∙ getD-set-other ws (8 + i - z .nu) (8 + k) a (pos 0) (λ (q : 8 + k ≡ 8 + i - z .nu). n (omega arith))
+            getD-set-other (set ws (8 + i - commandCount z) a) (8 + i) (8 + k) b (pos 0) (λ (q : 8 + k ≡ 8 + i). omega arith)
+            ∙ getD-set-other ws (8 + i - commandCount z) (8 + k) a (pos 0) (λ (q : 8 + k ≡ 8 + i - commandCount z). n (omega arith))
             ∙ r .single k h n)
-            (λ n. getD-set-same (set ws (8 + i - z .nu) a) (8 + i) b (pos 0) inside ∙ sym eb);
+            (λ n. getD-set-same (set ws (8 + i - commandCount z) a) (8 + i) b (pos 0) inside ∙ sym eb);
         paired = λ k l h.
-            getD-set-other (set ws (8 + i - z .nu) a) (8 + i) (8 + k) b (pos 0) (λ (q : 8 + k ≡ 8 + i). omega arith)
+            getD-set-other (set ws (8 + i - commandCount z) a) (8 + i) (8 + k) b (pos 0) (λ (q : 8 + k ≡ 8 + i). omega arith)
             ∙ ⊎-elim
-            (λ (q : k + z .nu ≡ i).
-            let is : 8 + k ≡ 8 + i - z .nu = omega arith in
-            rw (is, getD-set-same ws (8 + i - z .nu) a (pos 0) (omega (arith, room-for))) (sym ea ∙ ap (lineWord z s) (omega arith)))
-            (λ (m : k + z .nu < i). getD-set-other ws (8 + i - z .nu) (8 + k) a (pos 0) (λ (q : 8 + k ≡ 8 + i - z .nu). omega arith) ∙ r .paired k l m)
-            (eq-or-lt-of-le (le-of-suc-le-suc (subst (λ (m : ℕ). k + z .nu < m) (add-one i) h)));
+            (λ (q : k + commandCount z ≡ i).
+            let is : 8 + k ≡ 8 + i - commandCount z = omega arith in
+            rw (is, getD-set-same ws (8 + i - commandCount z) a (pos 0) (omega (arith, room-for))) (sym ea ∙ ap (lineWord z s) (omega arith)))
+            (λ (m : k + commandCount z < i). getD-set-other ws (8 + i - commandCount z) (8 + k) a (pos 0) (λ (q : 8 + k ≡ 8 + i - commandCount z). omega arith) ∙ r .paired k l m)
+            (eq-or-lt-of-le (le-of-suc-le-suc (subst (λ (m : ℕ). k + commandCount z < m) (add-one i) h)));
         kept = λ j g h. r .kept j g (omega arith);
       }

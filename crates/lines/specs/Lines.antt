@@ -7,7 +7,9 @@ use lib.ListN.{length, getD}
 use lib.IntN.{ℤ, pos}
 use lib.Ieee.{Float, nan}
 use Rattle.image.specs.declared.Sizes.{Sizes}
+use Rattle.image.specs.Sizes.{commandCount}
 use Rattle.line.specs.Line.{lineAt}
+use Rattle.frame.specs.declared.Due.{Due}
 use Rattle.frame.specs.declared.Value.{Value}
 use Rattle.frame.specs.Frame.{dueAt, isLow, lowBase, wordOf, convertedWord, valueOf, valueNumber, valueDouble}
 
@@ -29,6 +31,10 @@ lineFault z s i = valueNumber z (dueAt z i .kind) (lineValue z s i)
 unfoldable pub lineWord : Sizes → List ℕ → ℕ → ℤ
 lineWord z s i = convertedWord (wordOf z (dueAt z i .kind) (lineDouble z s i))
 
+-- the command whose limit a line has, row the motor and column the step: "command k (from 0) belongs to motor k mod nu"
+abbrev pub commandOf : Sizes → Due → ℕ
+commandOf z d = d .column * z .nu + d .row
+
 -- ---- what the code holds
 
 -- "nu, N, nx, b, W, sweeps", then nr as "image word 6", and 0
@@ -37,10 +43,10 @@ sizeWords z = pos (z .nu) ∷ pos (z .steps) ∷ pos (z .nx) ∷ pos (z .b) ∷ 
 
 -- i lines are read: every word stands in the array but the lows whose high is still to come, and these are kept as doubles
 pub record ReadTo (z : Sizes) (s : List ℕ) (i : ℕ) (words : List ℤ) (lows : List Float) : Type 0 where
-  pub size : length words ≡ 545
-  pub room : length lows ≡ 4
+  pub size : length words ≡ 569
+  pub room : length lows ≡ 16
   pub passed : (k : ℕ) → k < i → lineFault z s k ≡ 0
   pub head : (k : ℕ) → k < 8 → getD words k (pos 0) ≡ getD (sizeWords z) k (pos 0)
   pub single : (k : ℕ) → k < i → (isLow z k → ⊥) → getD words (8 + k) (pos 0) ≡ lineWord z s k
-  pub paired : (k : ℕ) → isLow z k → k + z .nu < i → getD words (8 + k) (pos 0) ≡ lineWord z s k
-  pub kept : (j : ℕ) → j < z .nu → lowBase z + j < i → getD lows j nan ≡ lineDouble z s (lowBase z + j)
+  pub paired : (k : ℕ) → isLow z k → k + commandCount z < i → getD words (8 + k) (pos 0) ≡ lineWord z s k
+  pub kept : (j : ℕ) → j < commandCount z → lowBase z + j < i → getD lows j nan ≡ lineDouble z s (lowBase z + j)

@@ -3,29 +3,38 @@ ghost use mathlib.Core.Path.{_≡_};
 ghost use Prim.Native.Nat.{_+_, _<_};
 ghost use Rattle.image.specs.Sizes.{Sound};
 ghost use Rattle.frame.specs.Frame.{total};
-ghost use Rattle.lines.specs.Lines.{lineFault, ReadTo};
+ghost use Rattle.lines.specs.Lines.{commandOf, lineFault, ReadTo};
 use double::Converted;
 use double::LimitWords;
 use double::Limits;
+use frame::Due;
 use frame::Value;
 use image::Sizes;
 
+// The command whose limit a line has: its row is the motor, its column the step.
+fn command_of(z: Sizes, d: Due) -> usize
+    requires { ⌜ Sound z × (d .row < z .nu) × (d .column < z .steps) ⌝ }
+    ensures { λ r. ⌜ r ≡ commandOf z d ⌝ }
+{
+    d.column * z.nu + d.row
+}
+
 // Reads line i after line 01. A low limit is kept as a double until its high limit is read; any other word is stored.
-pub fn take_line(words: &mut [i64; 545], lows: &mut [f64; 4], s: &[u8], z: Sizes, i: usize) -> u32
+pub fn take_line(words: &mut [i64; 569], lows: &mut [f64; 16], s: &[u8], z: Sizes, i: usize) -> u32
     requires { ⌜ Sound z × (i < total z) × ReadTo z (now s) i (now words) (now lows) ⌝ }
     ensures { λ r. ⌜ (r ≡ lineFault z (now (s .entry)) i) × (r ≡ 0 → ReadTo z (now (s .entry)) (i + 1) (now (words .exit)) (now (lows .exit))) ⌝ }
 {
+    let n = z.nu * z.steps;
     let d = frame::due_at(z, i);
-    let row = d.row;
     let x = match frame::value_of(d, line::line_from(s, 23 * (i + 1))) {
         Value::Double(x) => x,
         Value::Fault(n) => return n,
     };
     if d.kind == 5 {
-        let low = lows[row];
+        let low = lows[command_of(z, d)];
         match double::inward(Limits { low, high: x }, z.b, z.w) {
             LimitWords::Pair(low, high) => {
-                words[8 + i - z.nu] = low;
+                words[8 + i - n] = low;
                 words[8 + i] = high;
                 return 0;
             }
@@ -35,7 +44,7 @@ pub fn take_line(words: &mut [i64; 545], lows: &mut [f64; 4], s: &[u8], z: Sizes
     match frame::word_of(z, d.kind, x) {
         Converted::Word(v) => {
             if d.kind == 4 {
-                lows[row] = x;
+                lows[command_of(z, d)] = x;
             } else {
                 words[8 + i] = v;
             }

@@ -56,6 +56,12 @@ mul-i-2 c = search needs
 sub-i-2 : tie.Need-sub-i-2
 sub-i-2 c = search needs
 
+rem-frame-due-3 : tie.Need-rem-frame-due-3
+rem-frame-due-3 c = search needs
+
+div-frame-due-3 : tie.Need-div-frame-due-3
+div-frame-due-3 c = search needs
+
 frame-due-requires-3 : tie.Need-frame-due-requires-3
 frame-due-requires-3 c κs = search needs
 
@@ -63,6 +69,12 @@ returns-3 : tie.Need-returns-3
 returns-3 c =
     let a = c .before .before .before .before .before in
     c .frame-due3 .ensures ∙ due-4 (a .args .z) (a .args .i) (c .before .before .before .if1 .left) (c .before .before .if2 .left) (c .before .if3 .taken)
+
+rem-frame-due-4 : tie.Need-rem-frame-due-4
+rem-frame-due-4 c = search needs
+
+div-frame-due-4 : tie.Need-div-frame-due-4
+div-frame-due-4 c = search needs
 
 frame-due-requires-4 : tie.Need-frame-due-requires-4
 frame-due-requires-4 c κs = search needs
@@ -98,11 +110,11 @@ module _ (c : tie.Then7) where
   columns : 1 ≤ c .before .before .before .before .before .before .before .before .args .z .nr
   columns = some-columns _ _ _ (c .if7 .taken)
 
-div-frame-due-3 : tie.Need-div-frame-due-3
-div-frame-due-3 c = omega (arith, columns c)
+div-frame-due-5 : tie.Need-div-frame-due-5
+div-frame-due-5 c = omega (arith, columns c)
 
-rem-frame-due-3 : tie.Need-rem-frame-due-3
-rem-frame-due-3 c = omega (arith, columns c)
+rem-frame-due-5 : tie.Need-rem-frame-due-5
+rem-frame-due-5 c = omega (arith, columns c)
 
 frame-due-requires-7 : tie.Need-frame-due-requires-7
 frame-due-requires-7 c κs = search needs
@@ -149,8 +161,12 @@ due-at-spec =
     returns-2
     mul-i-2
     sub-i-2
+    rem-frame-due-3
+    div-frame-due-3
     frame-due-requires-3
     returns-3
+    rem-frame-due-4
+    div-frame-due-4
     frame-due-requires-4
     returns-4
     frame-due-requires-5
@@ -158,8 +174,8 @@ due-at-spec =
     frame-due-requires-6
     returns-6
     mul-if7
-    div-frame-due-3
-    rem-frame-due-3
+    div-frame-due-5
+    rem-frame-due-5
     frame-due-requires-7
     returns-7
     mul-frame-due

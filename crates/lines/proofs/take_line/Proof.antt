@@ -1,7 +1,7 @@
 -- `lines::take_line` meets its contract: each way out is one law of Step.antt. Assumes nothing.
 use native.Mathlib.Omega.{arith}
 use mathlib.Core.Path.{_≡_, sym, ap, _∙_}
-use Prim.Native.Nat.{ℕ, _+_, _-_, _≤_, _<_}
+use Prim.Native.Nat.{_-_, _<_}
 use lib.IntN.{ℤ}
 use lib.Ieee.{Float}
 use mir.Syntax.{w64}
@@ -13,23 +13,25 @@ use Rattle.frame.specs.declared.Value.the-variants.{Double}
 use Rattle.frame.specs.Frame.{dueAt, lowBase, valueDouble, wordOf}
 use Rattle.frame.proofs.Laws.{total-high}
 use Rattle.frame.proofs.Limits.{high-due, high-of, low-due, low-of}
+use Rattle.image.specs.Sizes.{commandCount}
+use Rattle.frame.specs.Frame.{isHigh}
 use Rattle.lines.specs.Lines.{lineFault, lineValue, lineWord}
-use Rattle.lines.proofs.Step.{fault-none, fault-refused, fault-word, pair-fault, pair-words, step-low, step-pair, step-word, value-fault, value-is}
+use Rattle.lines.proofs.Step.{OfCommand, fault-none, fault-refused, fault-word, of-command, pair-fault, pair-words, step-low, step-pair, step-word, value-fault, value-is}
 use Rattle.lines.proofs.take_line.Statement.{statement}
 use Rattle.lines.proofs.take_line.Tie as tie
 
 -- the place is in the tables
 module _ (c : tie.After-due-at) where
   abbrev a : tie.Start
-  a = c .before .before
+  a = c .before .before .before
 
-  small : a .args .i < 537
+  small : a .args .i < 561
   small = omega (arith, total-high (a .args .z) (a .pre .0), a .pre .1)
 
 -- the line's double was read
 module _ (c : tie.After-known-told) where
   abbrev st : tie.Start
-  st = c .before .before .before .before .before .before .before
+  st = c .before .before .before .before .before .before .before .before
 
   abbrev x : Float
   x = c .before .x .given .0 .0
@@ -37,7 +39,11 @@ module _ (c : tie.After-known-told) where
   value : lineValue (st .args .z) (st .args .s .now) (st .args .i) ≡ Double x
   value = value-is (st .args .z) (st .args .s .now) (st .args .i) _ _ _ (c .before .before .before .value-of .ensures) (c .before .before .before .before .before .due-at .ensures) (c .before .before .before .before .line-from .ensures .0) ∙ c .before .x .given .1
 
-  due-is : c .before .before .before .before .before .due-at .result ≡ dueAt (st .args .z) (st .args .i)
+  -- what was due
+  abbrev here : Due
+  here = c .before .before .before .before .before .due-at .result
+
+  due-is : here ≡ dueAt (st .args .z) (st .args .i)
   due-is = c .before .before .before .before .before .due-at .ensures
 
 -- a high limit
@@ -48,18 +54,11 @@ module _ (c : tie.Then1) where
   k5 : dueAt (su .args .z) (su .args .i) .kind ≡ 5
   k5 = ap (λ (d : Due). d .kind) (sym (due-is (c .before .before))) ∙ c .if1 .taken
 
-  high : (lowBase (su .args .z) + su .args .z .nu ≤ su .args .i) × (su .args .i < lowBase (su .args .z) + su .args .z .nu + su .args .z .nu)
+  high : isHigh (su .args .z) (su .args .i)
   high = high-of (su .args .z) (su .args .i) k5
 
-  row-is : c .before .before .before .before .before .before .before .due-at .result .row ≡ su .args .i - lowBase (su .args .z) - su .args .z .nu
-  row-is = ap (λ (d : Due). d .row) (due-is (c .before .before) ∙ high-due (su .args .z) (su .args .i) (high .0) (high .1))
-
-  row-small : c .before .before .before .before .before .before .before .due-at .result .row < 4
-  row-small = omega (arith, row-is, high, su .pre .0 .nu-high)
-
-  -- the row of the low that was kept
-  abbrev rowed : ℕ
-  rowed = c .before .before .before .before .before .before .before .due-at .result .row
+  of-high : OfCommand (su .args .z) (here (c .before .before)) (su .args .i - lowBase (su .args .z) - commandCount (su .args .z))
+  of-high = of-command (su .args .z) (su .pre .0) _ 5 _ (due-is (c .before .before) ∙ high-due (su .args .z) (su .args .i) high) (omega (arith, high))
 
 -- a word
 module _ (c : tie.After-known-told4) where
@@ -83,11 +82,13 @@ module _ (c : tie.Then2) where
   k4 : dueAt (sl .args .z) (sl .args .i) .kind ≡ 4
   k4 = ap (λ (d : Due). d .kind) (sym (due-is (kt (c .before .before)))) ∙ c .if2 .taken
 
-  low-row : kt (c .before .before) .before .before .before .before .before .due-at .result .row ≡ sl .args .i - lowBase (sl .args .z)
-  low-row = let l = low-of (sl .args .z) (sl .args .i) k4 in ap (λ (d : Due). d .row) (due-is (kt (c .before .before)) ∙ low-due (sl .args .z) (sl .args .i) l)
+  of-low : OfCommand (sl .args .z) (here (kt (c .before .before))) (sl .args .i - lowBase (sl .args .z))
+  of-low =
+      let l = low-of (sl .args .z) (sl .args .i) k4 in
+      of-command (sl .args .z) (sl .pre .0) _ 4 _ (due-is (kt (c .before .before)) ∙ low-due (sl .args .z) (sl .args .i) l) (omega (arith, l))
 
-  low-small : kt (c .before .before) .before .before .before .before .before .due-at .result .row < 4
-  low-small = omega (arith, low-row, low-of (sl .args .z) (sl .args .i) k4, sl .pre .0 .nu-high)
+mul-n : tie.Need-mul-n
+mul-n c = search needs
 
 due-at-requires : tie.Need-due-at-requires
 due-at-requires c κs = search needs
@@ -113,15 +114,29 @@ enum-known-n c = search needs
 returns : tie.Need-returns
 returns c =
     let k = c .before .before .before in
-    let u = k .before .before .before .before in
+    let u = k .before .before .before .before .before in
     let g = value-is (u .args .z) (u .args .s .now) (u .args .i) _ _ _ (k .value-of .ensures) (k .before .before .due-at .ensures) (k .before .line-from .ensures .0) ∙ c .before .n .given .1 in
     (value-fault (u .args .z) (u .args .s .now) (u .args .i) _ g, λ q. absurd (fault-none (u .args .z) (u .args .s .now) (u .args .i) _ g q))
 
+command-of-requires : tie.Need-command-of-requires
+command-of-requires c κs = (su c .pre .0, of-high c .0, of-high c .1)
+
+-- the low that was kept
+module _ (c : tie.After-command-of) where
+  abbrev uk : tie.Start
+  uk = su (c .before)
+
+  command-is : c .command-of .result ≡ uk .args .i - lowBase (uk .args .z) - commandCount (uk .args .z)
+  command-is = c .command-of .ensures ∙ of-high (c .before) .2
+
+  command-small : c .command-of .result < 16
+  command-small = omega (arith, command-is, high (c .before), uk .pre .0 .n-high)
+
 mul-low : tie.Need-mul-low
-mul-low c = omega (arith, row-small c)
+mul-low c = omega (arith, command-small c)
 
 element-copy-out-low : tie.Need-element-copy-out-low
-element-copy-out-low c = row-small c
+element-copy-out-low c = command-small c
 
 inward-requires : tie.Need-inward-requires
 inward-requires c κs = search needs
@@ -130,10 +145,10 @@ enum-known-low : tie.Need-enum-known-low
 enum-known-low c = search needs
 
 add-low : tie.Need-add-low
-add-low c = omega (arith, small (c .before .before .before .before .before .before .before .before .before .before .before .before))
+add-low c = omega (arith, small (c .before .before .before .before .before .before .before .before .before .before .before .before .before))
 
 sub-low : tie.Need-sub-low
-sub-low c = search needs
+sub-low c = omega (arith, high (c .before .before .before .before .before .before))
 
 mul-low-2 : tie.Need-mul-low-2
 mul-low-2 c = omega (arith, small (c .before .before .before .before .before .before .before .before .before .before .before .before .before))
@@ -152,12 +167,13 @@ element-set-from-high c = omega (arith, small (c .before .before .before .before
 
 returns-2 : tie.Need-returns-2
 returns-2 c =
-    let t = c .before .before .before .before .before .before in
+    let k = c .before .before .before .before .before in
+    let t = k .before in
     let u = su t in
-    let low = c .before .before .low2 in
+    let low = c .before .low2 in
     let ea : toZ w64 (ofZ w64 (low .given .0 .0)) ≡ low .given .0 .0 = search needs in
     let eb : toZ w64 (ofZ w64 (low .given .0 .1 .0)) ≡ low .given .0 .1 .0 = search needs in
-    let p = pair-words (u .args .z) (u .args .s .now) (u .args .i) (u .args .words .now) (u .args .lows .now) (u .pre .0) (u .pre .2) (k5 t) (x (t .before .before)) (value (t .before .before)) (rowed t) (row-is t) (low .given .0 .0) (low .given .0 .1 .0) (sym (low .given .1) ∙ c .before .before .before .before .inward .ensures .0) in
+    let p = pair-words (u .args .z) (u .args .s .now) (u .args .i) (u .args .words .now) (u .args .lows .now) (u .pre .0) (u .pre .2) (k5 t) (x (t .before .before)) (value (t .before .before)) (k .command-of .result) (command-is k) (low .given .0 .0) (low .given .0 .1 .0) (sym (low .given .1) ∙ c .before .before .before .inward .ensures .0) in
     (sym (p .2), λ q. step-pair (u .args .z) (u .args .s .now) (u .args .i) (u .args .words .now) (u .args .lows .now) (u .pre .0) (u .pre .1) (u .pre .2) (p .2) _ _ (p .0 ∙ sym ea) (p .1 ∙ sym eb) (k5 t))
 
 enum-told : tie.Need-enum-told
@@ -165,9 +181,10 @@ enum-told c = search needs
 
 returns-3 : tie.Need-returns-3
 returns-3 c =
-    let t = c .before .before .before .before in
+    let k = c .before .before .before .before in
+    let t = k .before in
     let u = su t in
-    let f = pair-fault (u .args .z) (u .args .s .now) (u .args .i) (u .args .words .now) (u .args .lows .now) (u .pre .0) (u .pre .2) (k5 t) (x (t .before .before)) (value (t .before .before)) (rowed t) (row-is t) (sym (c .enum-told .given .1) ∙ c .before .before .inward .ensures .0) in
+    let f = pair-fault (u .args .z) (u .args .s .now) (u .args .i) (u .args .words .now) (u .args .lows .now) (u .pre .0) (u .pre .2) (k5 t) (x (t .before .before)) (value (t .before .before)) (k .command-of .result) (command-is k) (sym (c .enum-told .given .1) ∙ c .before .before .inward .ensures .0) in
     (sym f, λ q. let n : ⊥ = omega arith in absurd n)
 
 word-of-requires : tie.Need-word-of-requires
@@ -175,6 +192,20 @@ word-of-requires c κs = search needs
 
 enum-known-v : tie.Need-enum-known-v
 enum-known-v c = search needs
+
+command-of-requires-2 : tie.Need-command-of-requires-2
+command-of-requires-2 c κs = (sl c .pre .0, of-low c .0, of-low c .1)
+
+-- the low that is kept now
+module _ (c : tie.After-command-of2) where
+  abbrev ul : tie.Start
+  ul = sl (c .before)
+
+  low-command : c .command-of2 .result ≡ ul .args .i - lowBase (ul .args .z)
+  low-command = c .command-of2 .ensures ∙ of-low (c .before) .2
+
+  low-small : c .command-of2 .result < 16
+  low-small = omega (arith, low-command, low-of (ul .args .z) (ul .args .i) (k4 (c .before)), ul .pre .0 .n-high)
 
 mul-lows : tie.Need-mul-lows
 mul-lows c = omega (arith, low-small c)
@@ -196,9 +227,9 @@ enum-told-2 c = search needs
 
 returns-4 : tie.Need-returns-4
 returns-4 c =
-    let d = c .before .before in
-    let u = sl c in
-    (sym (taken d .0), λ q. step-low (u .args .z) (u .args .s .now) (u .args .i) (u .args .words .now) (u .args .lows .now) (u .pre .0) (u .pre .1) (u .pre .2) (taken d .0) (x (kt d)) _ (ap valueDouble (value (kt d))) (k4 c) (low-row c))
+    let d = c .before .before .before in
+    let u = sl (c .before) in
+    (sym (taken d .0), λ q. step-low (u .args .z) (u .args .s .now) (u .args .i) (u .args .words .now) (u .args .lows .now) (u .pre .0) (u .pre .1) (u .pre .2) (taken d .0) (x (kt d)) _ (ap valueDouble (value (kt d))) (k4 (c .before)) (low-command c))
 
 returns-5 : tie.Need-returns-5
 returns-5 c =
@@ -222,6 +253,7 @@ pub take-line-spec : {M : Type 1} → statement M
 take-line-spec =
     tie.close
     (tie.spec
+    mul-n
     due-at-requires
     add-line-from
     mul-line-from
@@ -230,6 +262,7 @@ take-line-spec =
     enum-known-x
     enum-known-n
     returns
+    command-of-requires
     mul-low
     element-copy-out-low
     inward-requires
@@ -246,6 +279,7 @@ take-line-spec =
     returns-3
     word-of-requires
     enum-known-v
+    command-of-requires-2
     mul-lows
     element-write-lows
     add-v
