@@ -1,4 +1,4 @@
--- The length of a page, at most 537 lines of 44 bytes. Assumes nothing.
+-- The length of a page, at most 561 lines of 44 bytes. Assumes nothing.
 use mathlib.Core.Path.{_≡_, refl}
 use mathlib.Core.List.{List}
 use Prim.Native.Nat.{ℕ, _*_, _≤_}
@@ -28,10 +28,10 @@ length-page s = by (headOf (lineAt s 0))
     by (Sized z) = length-joined (pageLine z s) 44 (total z) (λ i l. length-page-line z s i)
     by (Unsized n) = refl
 
-pub count-high : (s : List ℕ) → designCount s ≤ 537
+pub count-high : (s : List ℕ) → designCount s ≤ 561
 unfolding designCount
 count-high s = by (headOf (lineAt s 0)) refl
   where
-    by : (h : Head) → headOf (lineAt s 0) ≡ h → headCount h ≤ 537
+    by : (h : Head) → headOf (lineAt s 0) ≡ h → headCount h ≤ 561
     by (Sized z) e = total-high z (head-sound (lineAt s 0) z e)
     by (Unsized n) e = omega arith

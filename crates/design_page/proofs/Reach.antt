@@ -26,7 +26,7 @@ by-head s m (Sized z) h = joined-cong (pageLine z (take m s)) (pageLine z s) (to
 by-head s m (Unsized n) h = refl
 
 -- ---- so many bytes decide any page
-module _ (s : List ℕ) (m : ℕ) (h : 12375 ≤ m) where
+module _ (s : List ℕ) (m : ℕ) (h : 12927 ≤ m) where
   near : reach s ≤ m
   near = le-trans (reach-most s) h
 

@@ -5,10 +5,10 @@ ghost use Rattle.io.specs.Counts.{Counts};
 
 // Room for drive.hex: one byte more than the largest sheet. `Enough` of label_text and of page_text says why no more has
 // to be read.
-pub fn drive_room() -> [u8; 12375]
-    ensures { λ r. ⌜ 12375 ≡ length r ⌝ }
+pub fn drive_room() -> [u8; 12927]
+    ensures { λ r. ⌜ 12927 ≡ length r ⌝ }
 {
-    [0; 12375]
+    [0; 12927]
 }
 
 // Reads a file until the buffer is full or the file ends. A file that can't be opened counts as empty.

@@ -11,10 +11,10 @@ ghost use Rattle.intake.specs.Intake.{ownTables, designNumber, intakeNum
 use sheet::Outcome;
 
 // Room for the largest image. A call, since a literal array would stand in every goal.
-pub fn blank_image() -> [u8; 2180]
-    ensures { λ r. ⌜ length r ≡ 2180 ⌝ }
+pub fn blank_image() -> [u8; 2276]
+    ensures { λ r. ⌜ length r ≡ 2276 ⌝ }
 {
-    [0u8; 2180]
+    [0u8; 2276]
 }
 
 // Checks 7 to 12. They stand once, on an image's bytes, so the words are written to a buffer first.
@@ -28,8 +28,8 @@ fn own_tables(buffer: &mut [u8], words: &[i64]) -> u32
 }
 
 // Reads a sheet and tests it: lines and end, then 7 to 12. With 0 the lent array has the image's words in front.
-pub fn read_design(words: &mut [i64; 545], sheet: &[u8]) -> Outcome
-    requires { ⌜ length (now words) ≡ 545 ⌝ }
+pub fn read_design(words: &mut [i64; 569], sheet: &[u8]) -> Outcome
+    requires { ⌜ length (now words) ≡ 569 ⌝ }
     ensures { λ r. ⌜ Answered (designNumber (now (sheet .entry))) (sheetWords (now (sheet .entry))) (r .number) (r .count) (now (words .exit)) ⌝ }
 {
     let t = sheet::read_sheet(words, sheet);

@@ -65,13 +65,13 @@ enough-target image state target l = by (leb (length target) 34) refl (eqb (size
         let n = eqb-false (sizesOf image .nr) 0 q in
         same (take 34 target) (some-due (sizesOf image .nr) (take 34 target) n ∙ p .0) ∙ sym (same target (some-due (sizesOf image .nr) target n ∙ p .1))
 
--- ---- drive.hex: at most 538 lines of 23 bytes
-pub enough : (drive state target : List ℕ) → labelText (take 12375 drive) (take 98 state) (take 34 target) ≡ labelText drive state target
+-- ---- drive.hex: at most 562 lines of 23 bytes
+pub enough : (drive state target : List ℕ) → labelText (take 12927 drive) (take 98 state) (take 34 target) ≡ labelText drive state target
 unfolding labelText
 enough drive state target =
     let image = intakeImage drive in
     let number = intakeNumber drive (length image) in
-    rw (enough-image drive 12375 (le-refl 12375), enough-number drive 12375 (le-refl 12375) (length image)) (by (eqb number 0) refl)
+    rw (enough-image drive 12927 (le-refl 12927), enough-number drive 12927 (le-refl 12927) (length image)) (by (eqb number 0) refl)
   where
     by : (b : Bool) → eqb (intakeNumber drive (length (intakeImage drive))) 0 ≡ b
         → cond b (imageText (intakeImage drive) (take 98 state) (take 34 target)) (refusal (intakeNumber drive (length (intakeImage drive))))

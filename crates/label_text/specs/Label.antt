@@ -50,6 +50,6 @@ labelText drive state target = printed (intakeNumber drive (length (intakeImage 
 -- the number of a sheet, and with 0 its image in front of an array
 pub record ReadDrive (sheet : List ℕ) (d : Drive) : Type 0 where
   pub number-is : d .number ≡ intakeNumber sheet (length (intakeImage sheet))
-  pub size : length (d .image) ≡ 2180
-  pub room : d .length ≤ 2180
+  pub size : length (d .image) ≡ 2276
+  pub room : d .length ≤ 2276
   pub image-is : d .number ≡ 0 → take (d .length) (d .image) ≡ intakeImage sheet

@@ -15,7 +15,7 @@ use text::Text;
 pub struct Drive {
     pub number: u32,
     pub length: usize,
-    pub image: [u8; 2180],
+    pub image: [u8; 2276],
 }
 
 // Takes a sheet in. Reading it once before tells the image's length, which the intake asks for.

@@ -4,11 +4,11 @@ use libc::STDOUT_FILENO;
 ghost use mathlib.Core.Path.{_≡_};
 ghost use lib.ListN.{length};
 
-// Room for the largest page, 537 lines of 44 bytes.
-fn page_room() -> [u8; 23628]
-    ensures { λ r. ⌜ 23628 ≡ length r ⌝ }
+// Room for the largest page, 561 lines of 44 bytes.
+fn page_room() -> [u8; 24684]
+    ensures { λ r. ⌜ 24684 ≡ length r ⌝ }
 {
-    [0; 23628]
+    [0; 24684]
 }
 
 fn main() {

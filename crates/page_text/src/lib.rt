@@ -16,10 +16,10 @@ fn design_count(drive: &[u8]) -> usize
     }
 }
 
-// Writes what the page program prints in front of a buffer that has room for 537 lines, and answers its length.
+// Writes what the page program prints in front of a buffer that has room for 561 lines, and answers its length.
 pub fn page(drive: &[u8], out: &mut [u8]) -> usize
-    requires { ⌜ 23628 ≤ length (now out) ⌝ }
-    ensures { λ r. ⌜ (r ≤ 23628) × (take r (now (out .exit)) ≡ pageText (now (drive .entry))) ⌝ }
+    requires { ⌜ 24684 ≤ length (now out) ⌝ }
+    ensures { λ r. ⌜ (r ≤ 24684) × (take r (now (out .exit)) ≡ pageText (now (drive .entry))) ⌝ }
 {
     let length = 44 * design_count(drive);
     let number = gantry::gantry_page(drive, &mut out[..length]);

@@ -65,7 +65,7 @@ passing s e = by (headOf (lineAt s 0)) refl
 
 -- ---- the answer
 module _ (s : List ℕ) (n c : ℕ) (ws : List ℤ) where
-  pub answered-unsized : headOf (lineAt s 0) ≡ Unsized n → c ≤ 545 → Answered (sheetNumber s) (sheetWords s) n c ws
+  pub answered-unsized : headOf (lineAt s 0) ≡ Unsized n → c ≤ 569 → Answered (sheetNumber s) (sheetWords s) n c ws
   answered-unsized h l = record {
     number-is = unfold sheetNumber in rw h;
     words-are = λ w. absurd (head-none (lineAt s 0) n h w);

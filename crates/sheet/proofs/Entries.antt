@@ -35,7 +35,7 @@ use Rattle.sheet.proofs.Answer.{Passing, passing}
 use Rattle.sheet.proofs.Image.{image-sizes, image-word}
 
 -- no fault among the first n, and none after them
-first-zero : (f : ℕ → ℕ) (n e : ℕ) → first f n e ≡ 0 → ((k : ℕ) → k < n → f k ≡ 0) × (e ≡ 0)
+pub first-zero : (f : ℕ → ℕ) (n e : ℕ) → first f n e ≡ 0 → ((k : ℕ) → k < n → f k ≡ 0) × (e ≡ 0)
 first-zero f zero e h = (λ k l. absurd (not-suc-le-zero l), h)
 first-zero f (suc n) e h =
     let p = first-zero f n (orElse (f n) e) h in

@@ -75,12 +75,12 @@ module _ (z : Sizes) (s : List ℕ) (o : Sound z) where
       at : (v : Input) (j : ℕ) → j < inputCount v z → leZ (pos 0) (wordAt image (boundsFrom v z + 4 * j)) ≡ true
       at State j h =
           let n = commandCount z in
-          let i = n * n + n * z .nx + 2 * z .nu + 1 + j in
+          let i = n * n + n * z .nx + 2 * n + 1 + j in
           line-limit i (boundPlace z + 4 * j) (omega arith)
           (ap (λ (d : Due). isInputLimit (d .kind)) (sym (due-7 z i (omega arith) (omega arith) (omega arith) (omega arith) (omega arith) (omega arith)))) (omega arith)
       at Target j h =
           let n = commandCount z in
-          let i = n * n + n * z .nx + 2 * z .nu + 1 + z .nx + n * z .nr + j in
+          let i = n * n + n * z .nx + 2 * n + 1 + z .nx + n * z .nr + j in
           line-limit i (targetBoundPlace z + 4 * j) (omega arith)
           (ap (λ (d : Due). isInputLimit (d .kind)) (sym (due-9 z i (omega arith) (omega arith) (omega arith) (omega arith) (omega arith) (omega arith) (omega arith) (omega (arith, total-is z))))) (omega arith)
 

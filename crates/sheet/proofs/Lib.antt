@@ -5,4 +5,5 @@ pub mod Answer
 pub mod Image
 pub mod Entries
 pub mod Digits
+pub mod Limits
 pub mod Reach

@@ -88,17 +88,17 @@ module _ (s t : List ℕ) (e : take (reach s) s ≡ take (reach s) t) where
   pub same-image : sheetImage s ≡ sheetImage t
   same-image = sym (take-image s (reach s) (omega arith)) ∙ ap sheetImage e ∙ take-image t (reach s) (omega (arith, same-reach))
 
--- ---- the largest sheet: 538 lines of 23 bytes
-pub reach-most : (s : List ℕ) → reach s ≤ 12375
+-- ---- the largest sheet: 562 lines of 23 bytes
+pub reach-most : (s : List ℕ) → reach s ≤ 12927
 unfolding reach
 reach-most s = by (headOf (lineAt s 0)) refl
   where
-    by : (h : Head) → headOf (lineAt s 0) ≡ h → reachOf h ≤ 12375
+    by : (h : Head) → headOf (lineAt s 0) ≡ h → reachOf h ≤ 12927
     by (Sized z) e = omega (arith, total-high z (head-sound (lineAt s 0) z e))
     by (Unsized n) e = omega arith
 
 -- so that many bytes decide any sheet
-module _ (s : List ℕ) (m : ℕ) (h : 12375 ≤ m) where
+module _ (s : List ℕ) (m : ℕ) (h : 12927 ≤ m) where
   pub enough-lines : sheetNumber (take m s) ≡ sheetNumber s
   enough-lines = take-number s m (le-trans (reach-most s) h)
 

@@ -14,7 +14,7 @@ use lib.Seq.{ext-getD, getD-take, length-take-le, getD-append-add}
 use borrow.Author.Tests.{eq-eqb, ne-eqb, le-leb, lt-leb, ltb-true, ltb-false}
 use Rattle.gradient.specs.Index.{tab}
 use Rattle.gradient.proofs.Index.{tab-length, tab-at}
-use Rattle.image.specs.Sizes.{Sound}
+use Rattle.image.specs.Sizes.{Sound, commandCount}
 use Rattle.image.specs.declared.Sizes.{Sizes}
 use Rattle.image.specs.Order.{orElse}
 use Rattle.frame.specs.Frame.{isLow, lowBase, total}
@@ -46,7 +46,7 @@ pub line-at : (z : Sizes) (s : List ℕ) (i : ℕ) → i < total z → getD (lin
 line-at z s i l = getD-append-add (sizeWords z) (tab (lineWord z s) (total z)) i (pos 0) ∙ tab-at (lineWord z s) (total z) i (pos 0) l
 
 -- the sizes in front of an array
-pub read-start : (z : Sizes) (s : List ℕ) (vs ws : List ℤ) (ls : List Float) → length vs ≡ 545 → ws ≡ sizeWords z ++ drop 8 vs → length ls ≡ 4 → ReadTo z s 0 ws ls
+pub read-start : (z : Sizes) (s : List ℕ) (vs ws : List ℤ) (ls : List Float) → length vs ≡ 569 → ws ≡ sizeWords z ++ drop 8 vs → length ls ≡ 16 → ReadTo z s 0 ws ls
 read-start z s vs ws ls l e h = record {
   size = ap length e ∙ omega (arith, length-append (sizeWords z) (drop 8 vs), length-drop 8 vs, l);
   room = h;
@@ -61,16 +61,16 @@ module _ (z : Sizes) (s : List ℕ) (ws : List ℤ) (ls : List Float) (o : Sound
   each : (k : ℕ) → k < total z → getD ws (8 + k) (pos 0) ≡ lineWord z s k
   each k l = by (ltb k (lowBase z)) refl
     where
-      inside : lowBase z + z .nu + z .nu < total z
+      inside : lowBase z + commandCount z + commandCount z < total z
       inside = unfold lowBase in omega (arith, total-is z)
 
-      by-high : (b : Bool) → ltb k (lowBase z + z .nu) ≡ b → lowBase z ≤ k → getD ws (8 + k) (pos 0) ≡ lineWord z s k
-      by-high true e h = r .paired k (h, ltb-true k (lowBase z + z .nu) e) (omega (arith, ltb-true k (lowBase z + z .nu) e, inside))
-      by-high false e h = r .single k l (λ (m : isLow z k). omega (arith, ltb-false k (lowBase z + z .nu) e, m .1))
+      by-high : (b : Bool) → ltb k (lowBase z + commandCount z) ≡ b → lowBase z ≤ k → getD ws (8 + k) (pos 0) ≡ lineWord z s k
+      by-high true e h = r .paired k (h, ltb-true k (lowBase z + commandCount z) e) (omega (arith, ltb-true k (lowBase z + commandCount z) e, inside))
+      by-high false e h = r .single k l (λ (m : isLow z k). omega (arith, ltb-false k (lowBase z + commandCount z) e, m .1))
 
       by : (b : Bool) → ltb k (lowBase z) ≡ b → getD ws (8 + k) (pos 0) ≡ lineWord z s k
       by true e = r .single k l (λ (m : isLow z k). omega (arith, ltb-true k (lowBase z) e, m .0))
-      by false e = by-high (ltb k (lowBase z + z .nu)) refl (ltb-false k (lowBase z) e)
+      by false e = by-high (ltb k (lowBase z + commandCount z)) refl (ltb-false k (lowBase z) e)
 
   room : length (take (8 + total z) ws) ≡ 8 + total z
   room = length-take-le (8 + total z) ws (omega (arith, r .size, total-high z o))

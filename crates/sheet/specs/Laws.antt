@@ -1,16 +1,19 @@
 -- What the laws of a sheet state. Definitions only.
-use Prim.Native.Nat.{ℕ, _+_, _*_}
+use Prim.Native.Nat.{ℕ, _+_, _*_, _/_, _%_}
 use mathlib.Core.Path.{_≡_}
 use mathlib.Core.List.{List}
+use lib.IntN.{ℤ}
 use lib.Ieee.{binary64, ofBits}
 use Rattle.word.specs.Word.{wordAt}
 use Rattle.hex.specs.Hex.{hexAt}
-use Rattle.double.specs.Double.{rounded, ruleOf}
+use Rattle.double.specs.Double.{rounded, ruleOf, roundUp, roundDown}
 use Rattle.image.specs.declared.Sizes.{Sizes}
+use Rattle.image.specs.Sizes.{commandCount}
+use Rattle.image.specs.Layout.{lowerAt, upperAt}
 use Rattle.line.specs.Line.{lineAt}
 use Rattle.frame.specs.declared.Head.{Head}
 use Rattle.frame.specs.declared.Head.the-variants.{Sized, Unsized}
-use Rattle.frame.specs.Frame.{dueAt, headOf, roundingOf, total}
+use Rattle.frame.specs.Frame.{dueAt, headOf, lowBase, roundingOf, total}
 use Rattle.sheet.specs.Sheet.{sheetImage}
 
 -- ---- a line and its word
@@ -21,6 +24,20 @@ pub record Rounded (z : Sizes) (s : List ℕ) (i : ℕ) : Type 0 where
   pub row : hexAt 2 s (23 * (i + 1) + 2) ≡ dueAt z i .row
   pub column : hexAt 2 s (23 * (i + 1) + 4) ≡ dueAt z i .column
   pub word : wordAt (sheetImage s) (4 * (8 + i)) ≡ rounded (ruleOf (roundingOf (dueAt z i .kind))) (z .b) (ofBits binary64 (hexAt 16 s (23 * (i + 1) + 6)))
+
+-- ---- the limits of a command
+
+-- line i after line 01 is of a kind, a motor and a step, and v is its double rounded by a rule
+pub record LimitLine (z : Sizes) (s : List ℕ) (i kind motor step : ℕ) (rule : ℤ → ℕ → ℤ) (v : ℤ) : Type 0 where
+  pub kind-is : hexAt 2 s (23 * (i + 1)) ≡ kind
+  pub motor-is : hexAt 2 s (23 * (i + 1) + 2) ≡ motor
+  pub step-is : hexAt 2 s (23 * (i + 1) + 4) ≡ step
+  pub word-is : v ≡ rounded rule (z .b) (ofBits binary64 (hexAt 16 s (23 * (i + 1) + 6)))
+
+-- "each command has the limits of its own step": command k of the image has those that the sheet gives motor k mod nu at step k / nu
+pub record OwnLimits (z : Sizes) (s : List ℕ) (k : ℕ) : Type 0 where
+  pub low : LimitLine z s (lowBase z + k) 4 (k % z .nu) (k / z .nu) roundUp (lowerAt z (sheetImage s) k)
+  pub high : LimitLine z s (lowBase z + commandCount z + k) 5 (k % z .nu) (k / z .nu) roundDown (upperAt z (sheetImage s) k)
 
 -- ---- how far a sheet is read
 

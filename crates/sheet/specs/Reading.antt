@@ -10,4 +10,4 @@ pub record Answered (number-due : ℕ) (words-due : List ℤ) (number count : �
   pub number-is : number ≡ number-due
   pub words-are : number ≡ 0 → take count words ≡ words-due
   pub count-is : number ≡ 0 → count ≡ length words-due
-  pub count-high : count ≤ 545
+  pub count-high : count ≤ 569

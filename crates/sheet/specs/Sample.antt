@@ -1,19 +1,27 @@
 -- Worked sheets by computation: document 01's S, S with target values, and these with a line or a byte changed. Assumes nothing.
 use mathlib.Core.Path.{_≡_, refl}
 use mathlib.Core.List.{List, [], _∷_, _++_, map}
-use Prim.Native.Nat.{ℕ}
-use lib.ListN.{set, take}
+use Prim.Native.Nat.{ℕ, _+_, _*_, _/_, _%_}
+use mathlib.Core.Bool.{cond}
+use lib.Dec.{eqb}
+use lib.IntN.{pos, negsuc}
+use lib.ListN.{drop, set, take}
 use lib.Ieee.{ofBits}
 use Rattle.integer.specs.Round.{floor}
 use Rattle.word.specs.Digits.{numberBE, digitsBE}
 use Rattle.word.specs.Word.{bytesBE, wordsOut}
 use Rattle.hex.specs.Hex.{isHex, digitOf, hexes, hexAt, digitByte, hexDigits}
 use Rattle.double.specs.Double.{scalable, rounded, accepted}
+use Rattle.gradient.specs.Index.{tab}
 use Rattle.image.specs.Sizes.{sound}
 use Rattle.line.specs.Line.{lineAt}
 use Rattle.frame.specs.Frame.{dueAt, headOf, total, wordOf}
 use Rattle.lines.specs.Lines.{lineFault, lineValue, lineWord}
 use Rattle.sheet.specs.Sheet.{sheetImage, sheetNumber, sheetWords}
+
+-- a frame as a number of 22 digits
+abbrev pub frame : ℕ → ℕ → ℕ → ℕ → ℕ
+frame kind row column bits = ((kind * 256 + row) * 256 + column) * 0x1_0000_0000_0000_0000 + bits
 
 -- a text of frames, "22 hexadecimal digits .., then byte 10" each
 abbrev pub text : List ℕ → List ℕ
@@ -63,6 +71,58 @@ abbrev pub twoTargets : ℕ → List ℕ
 twoTargets last =
     text
     (set lines 0 0x0101010104080200030000 ++ (0x0800003FF0000000000000 ∷ 0x0800013FF0000000000000 ∷ 0x0900003FE4000000000000 ∷ last ∷ []))
+
+-- one motor, two steps: "the column as the step", limits of 20 counts at step 0 and of 5 at step 1
+abbrev pub stepLines : List ℕ
+stepLines =
+    0x0101020104080000030000
+    ∷ 0x0200003FE0000000000000
+    ∷ 0x0200010000000000000000
+    ∷ 0x0201000000000000000000
+    ∷ 0x0201013FE0000000000000
+    ∷ 0x0300003FF0000000000000
+    ∷ 0x0301003FF0000000000000
+    ∷ 0x040000BFF4000000000000
+    ∷ 0x040001BFD4000000000000
+    ∷ 0x0500003FF4000000000000
+    ∷ 0x0500013FD4000000000000
+    ∷ 0x0600000000000000000000
+    ∷ 0x0700003FE4000000000000
+    ∷ []
+
+-- "the former layout": one low and one high a motor, in column 0
+abbrev pub formerLines : List ℕ
+formerLines = take 8 stepLines ++ (0x0500003FF4000000000000 ∷ drop 11 stepLines)
+
+-- the high of step 0 before the low of step 1
+abbrev pub mixedLines : List ℕ
+mixedLines = set (set stepLines 8 0x0500003FF4000000000000) 9 0x040001BFD4000000000000
+
+-- two motors, two steps, and lines of limits; H is 0.5 on the diagonal
+abbrev pub motorLines : List ℕ → List ℕ
+motorLines limits =
+    0x0102020104080000030000
+    ∷ tab (λ (i : ℕ). frame 2 (i / 4) (i % 4) (cond (eqb (i / 4) (i % 4)) 0x3FE0000000000000 0)) 16
+    ++ (tab (λ (i : ℕ). frame 3 i 0 0x3FF0000000000000) 4 ++ (limits ++ (0x0600000000000000000000 ∷ 0x0700003FE4000000000000 ∷ [])))
+
+-- "steps outermost and motors within": lows of −20, −4, −2 and −8 counts, highs of 20, 2, 3 and 1
+abbrev pub limitLines : List ℕ
+limitLines =
+    0x040000BFF4000000000000
+    ∷ 0x040100BFD0000000000000
+    ∷ 0x040001BFC0000000000000
+    ∷ 0x040101BFE0000000000000
+    ∷ 0x0500003FF4000000000000
+    ∷ 0x0501003FC0000000000000
+    ∷ 0x0500013FC8000000000000
+    ∷ 0x0501013FB0000000000000
+    ∷ []
+
+-- the limits in its image, "n lows and n highs": command k has motor k mod nu
+image-limits : take 32 (drop 112 (sheetImage (text (motorLines limitLines)))) ≡
+    wordsOut (negsuc 19 ∷ negsuc 3 ∷ negsuc 1 ∷ negsuc 7 ∷ pos 20 ∷ pos 2 ∷ pos 3 ∷ pos 1 ∷ [])
+unfolding isHex digitOf hexes hexAt digitByte hexDigits numberBE digitsBE bytesBE wordsOut ofBits floor scalable rounded accepted sound lineAt headOf total dueAt wordOf lineValue lineFault lineWord sheetNumber sheetWords sheetImage
+image-limits = refl
 
 -- ---- the number through lines and end, beside each sheet
 pub record Sample : Type 0 where
@@ -124,6 +184,18 @@ samples =
     -- "the first fault decides": 5 at the low's own line before 1 at the high's; 1 before that 5
     ∷ sample 5 (set (changed 3 0x040000FFF0000000000000) 99 102)
     ∷ sample 1 (set (changed 3 0x040000FFF0000000000000) 30 102)
+    -- two steps, and two motors at two steps
+    ∷ sample 0 (text stepLines)
+    ∷ sample 0 (text (motorLines limitLines))
+    -- "a sheet .. in the former layout is 2 when N is above 1"; a 05 before the last 04; the column left 0; a step too many
+    ∷ sample 2 (text formerLines)
+    ∷ sample 2 (text mixedLines)
+    ∷ sample 2 (text (set stepLines 8 0x040000BFD4000000000000))
+    ∷ sample 2 (text (take 9 stepLines ++ (0x040002BFD4000000000000 ∷ drop 9 stepLines)))
+    -- motors outermost: the low of motor 0 at step 1 before that of motor 1 at step 0
+    ∷ sample 2 (text (motorLines (set (set limitLines 1 0x040001BFC0000000000000) 2 0x040100BFD0000000000000)))
+    -- a low's fault at its own line, also at the last step
+    ∷ sample 5 (set (text (set stepLines 8 0x040001FFF0000000000000)) 237 102)
     ∷ []
 
 numbers : map (λ (x : Sample). sheetNumber (x .sheet)) samples ≡ map (λ (x : Sample). x .number) samples

@@ -16,15 +16,15 @@ pub struct Outcome {
 }
 
 // Zeros. As a call, they keep their literals out of the goals.
-pub fn blank_words() -> [i64; 545]
-    ensures { λ r. ⌜ length r ≡ 545 ⌝ }
+pub fn blank_words() -> [i64; 569]
+    ensures { λ r. ⌜ length r ≡ 569 ⌝ }
 {
-    [0i64; 545]
+    [0i64; 569]
 }
 
 // The sizes stand in front.
-fn put_sizes(words: &mut [i64; 545], z: Sizes)
-    requires { ⌜ Sound z × (length (now words) ≡ 545) ⌝ }
+fn put_sizes(words: &mut [i64; 569], z: Sizes)
+    requires { ⌜ Sound z × (length (now words) ≡ 569) ⌝ }
     ensures { λ _. ⌜ now (words .exit) ≡ sizeWords z ++ drop 8 (now (words .entry)) ⌝ }
 {
     words[0] = z.nu as i64;
@@ -38,12 +38,12 @@ fn put_sizes(words: &mut [i64; 545], z: Sizes)
 }
 
 // Reads the lines after line 01, and tests the end.
-fn read_lines(words: &mut [i64; 545], s: &[u8], z: Sizes) -> Outcome
-    requires { ⌜ Sound z × (length (now words) ≡ 545) ⌝ }
+fn read_lines(words: &mut [i64; 569], s: &[u8], z: Sizes) -> Outcome
+    requires { ⌜ Sound z × (length (now words) ≡ 569) ⌝ }
     ensures { λ r. ⌜ Answered (linesNumber z (now (s .entry))) (linesWords z (now (s .entry))) (r .number) (r .count) (now (words .exit)) ⌝ }
 {
     put_sizes(words, z);
-    let mut lows = [0.0f64; 4];
+    let mut lows = [0.0f64; 16];
     let total = image::body_count(z);
     let mut i: usize = 0;
     while i < total {
@@ -69,8 +69,8 @@ fn read_lines(words: &mut [i64; 545], s: &[u8], z: Sizes) -> Outcome
 }
 
 // Reads a sheet through its lines and end.
-pub fn read_sheet(words: &mut [i64; 545], s: &[u8]) -> Outcome
-    requires { ⌜ length (now words) ≡ 545 ⌝ }
+pub fn read_sheet(words: &mut [i64; 569], s: &[u8]) -> Outcome
+    requires { ⌜ length (now words) ≡ 569 ⌝ }
     ensures { λ r. ⌜ Answered (sheetNumber (now (s .entry))) (sheetWords (now (s .entry))) (r .number) (r .count) (now (words .exit)) ⌝ }
 {
     match frame::head_of(line::line_from(s, 0)) {

@@ -37,7 +37,7 @@ module _ (c : tie.After-body-count Inv-loop μ-loop) where
   count-is : c .body-count .result ≡ total (a .args .z)
   count-is = c .body-count .ensures ∙ sym (total-is (a .args .z))
 
-  count-high : c .body-count .result ≤ 537
+  count-high : c .body-count .result ≤ 561
   count-high = omega (arith, count-is, total-high (a .args .z) (a .pre .0))
 
   words-long : length (a .args .words .now) ≡ 8 + c .body-count .result

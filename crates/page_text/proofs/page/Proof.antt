@@ -15,7 +15,7 @@ use Rattle.page_text.proofs.page.Tie as tie
 
 -- the page's buffer lies within `out`
 module _ (c : tie.After-design-count) where
-  few : 44 * c .design-count .result ≤ 23628
+  few : 44 * c .design-count .result ≤ 24684
   few = omega (arith, c .design-count .ensures, count-high (c .before .before .before .args .drive .now))
 
   room : 44 * c .design-count .result ≤ length (c .before .before .before .args .out .now)

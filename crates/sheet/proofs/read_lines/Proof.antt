@@ -33,7 +33,7 @@ module _ (c : tie.After-body-count Inv-loop μ-loop) where
   many : c .body-count .result ≡ spec.total z
   many = c .body-count .ensures ∙ sym (total-is z)
 
-  high : spec.total z ≤ 537
+  high : spec.total z ≤ 561
   high = total-high z (a .pre .0)
 
 put-sizes-requires : tie.Need-put-sizes-requires Inv-loop μ-loop
@@ -45,7 +45,7 @@ body-count-requires c κs = c .before .before .before .pre .0
 loop-holds : tie.Need-loop-holds Inv-loop μ-loop
 loop-holds c =
     let w : c .before .put-sizes .last .0 ≡ sizeWords (z c) ++ drop 8 (a c .args .words .now) = c .before .put-sizes .ensures in
-    (omega arith, read-start (z c) (text c) (a c .args .words .now) _ (replicate 4 (ofBits binary64 0)) (a c .pre .1) w refl)
+    (omega arith, read-start (z c) (text c) (a c .args .words .now) _ (replicate 16 (ofBits binary64 0)) (a c .pre .1) w refl)
 
 take-line-requires : tie.Need-take-line-requires Inv-loop μ-loop
 take-line-requires c κs =
