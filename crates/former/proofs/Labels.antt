@@ -1,80 +1,66 @@
--- The label of a sheet with the number and the image that it had is the one that it had, whatever target.hex holds. Assumes nothing.
-use mathlib.Core.Path.{_≡_, refl, sym, ap, _∙_}
+-- With N 1 the label of every sheet is the one that it had. Assumes nothing.
+use mathlib.Core.Path.{_≡_, refl}
 use mathlib.Core.Bool.{Bool, true, false, cond}
-use mathlib.Core.List.{List, []}
+use mathlib.Core.List.{List}
 use Prim.Native.Nat.{ℕ, _*_}
 use lib.Dec.{eqb}
 use lib.ListN.{length}
 use borrow.Author.Tests.{eqb-true}
-use Rattle.word.specs.Buffer.{joined}
-use Rattle.word.specs.Word.{natAt}
 use Rattle.image.specs.declared.Sizes.{Sizes}
 use Rattle.image.specs.declared.Input.the-variants.{State}
-use Rattle.image.specs.Order.{orElse}
 use Rattle.image.specs.Sizes.{commandCount}
-use Rattle.interface.specs.Tables.{imageNumber}
-use Rattle.interface.specs.Calls.{inputPasses, coldAnswer, callNumber, solveNumber, solveAnswer}
-use Rattle.intake.specs.Intake.{intakeNumber, intakeImage}
-use Rattle.intake.proofs.Laws.{accepted-image}
-use Rattle.word_file.specs.WordFile.{isWordFile, fileWords}
+use Rattle.image.specs.Layout.{sizesOf}
+use Rattle.image.proofs.Ordering.{none}
+use Rattle.interface.specs.Calls.{coldAnswer}
+use Rattle.sheet.specs.Sheet.{sheetNumber}
+use Rattle.intake.specs.Intake.{bufferNumber, designNumber, intakeNumber, intakeImage, ownTables}
+use Rattle.word_file.specs.WordFile.{fileWords}
 use Rattle.text.specs.Text.{refusal}
-use Rattle.label_files.specs.Files.{targetForm, formNumber}
+use Rattle.label_files.specs.Files.{formNumber}
 use Rattle.label_text.specs.Label.{filesNumber, imageText, labelText}
 use Rattle.former.specs.Former as former
-use Rattle.former.specs.Unchanged.{SameIntake}
-use Rattle.former.proofs.Images.{sizes-same, cold-start, solve}
+use Rattle.former.specs.Relaid.{stepsByte, SameCalls}
+use Rattle.former.proofs.Calls.{one-step-calls, within-same}
+use Rattle.former.proofs.Sheets.{image-one, one-step}
 
--- ---- an accepted image with word 6 zero
-module _ (image state target : List ℕ) (accepted : imageNumber image ≡ 0) (none : natAt image 24 ≡ 0) where
+-- ---- an image with N 1
+module _ (image state target : List ℕ) (one : sizesOf image .steps ≡ 1) where
   abbrev z : Sizes
-  z = former.sizesOf image
+  z = sizesOf image
 
-  abbrev words : List ℕ
-  words = fileWords (z .nx) state
+  -- the solve from the cold start
+  calls : SameCalls image (fileWords (z .nx) state) (fileWords (z .nr) target) (former.coldAnswer image) (8 * commandCount z)
+  calls = one-step-calls image (fileWords (z .nx) state) (fileWords (z .nr) target) (former.coldAnswer image) (8 * commandCount z) one
 
-  abbrev room : ℕ
-  room = 8 * commandCount z
+  form-same : formNumber z image state target ≡ former.formNumber z image state target
+  unfolding formNumber former.formNumber
+  form-same = rw (within-same z one image State (fileWords (z .nx) state))
 
-  cold-same : coldAnswer image ≡ former.coldAnswer image
-  cold-same = cold-start image room none .answer
+  files-same : filesNumber image state target ≡ former.filesNumber image state target
+  unfolding filesNumber former.filesNumber
+  files-same = rw (form-same, calls .cold-answer, calls .number)
 
-  number-same : solveNumber image words [] (coldAnswer image) room ≡ former.solveNumber image words (former.coldAnswer image) room
-  number-same = ap (λ (c : List ℕ). solveNumber image words [] c room) cold-same ∙ solve image words (former.coldAnswer image) room none .number
+  text-same : imageText image state target ≡ former.imageText image state target
+  unfolding imageText former.imageText
+  text-same = rw (files-same, calls .cold-answer, calls .answer)
 
-  answer-same : solveAnswer image words [] (coldAnswer image) ≡ former.solveAnswer image words (former.coldAnswer image)
-  answer-same = ap (solveAnswer image words []) cold-same ∙ solve image words (former.coldAnswer image) room none .answer
-
-  -- a state beyond its limits was refused by the solve
-  beyond : inputPasses State z image words ≡ false → solveNumber image words [] (coldAnswer image) room ≡ 13
-  unfolding solveNumber callNumber
-  beyond h = rw (accepted, sizes-same image none, h)
-
-  files-same : filesNumber image state target ≡ former.stateNumber image state
-  unfolding filesNumber formNumber targetForm joined fileWords former.stateNumber former.sizesOf
-  files-same = rw (sizes-same image none) (by (isWordFile (z .nx) state) (inputPasses State z image words) refl)
-    where
-      by : (a b : Bool) → inputPasses State z image words ≡ b
-          → orElse (cond a (cond b 0 13) 13) (solveNumber image words [] (coldAnswer image) room) ≡ orElse (cond a 0 13) (former.solveNumber image words (former.coldAnswer image) room)
-      by false b e = refl
-      by true true e = number-same
-      by true false e = sym (beyond e) ∙ number-same
-
-  text-same : imageText image state target ≡ former.imageText image state
-  unfolding imageText joined fileWords former.imageText former.sizesOf
-  text-same = rw (files-same, sizes-same image none, answer-same)
-
--- ---- the law, for a buffer of the image's own length
-module _ (drive state target : List ℕ) (same : SameIntake drive (length (former.intakeImage drive))) where
+-- ---- the law
+module _ (drive state target : List ℕ) (e : stepsByte drive ≡ 1) where
   abbrev number : ℕ
-  number = former.intakeNumber drive (length (former.intakeImage drive))
+  number = intakeNumber drive (length (intakeImage drive))
 
-  pub label : labelText drive state target ≡ former.labelText drive state
+  -- an accepted sheet passes lines and end
+  passes : number ≡ 0 → sheetNumber drive ≡ 0
+  unfolding intakeNumber designNumber
+  passes h = none (sheetNumber drive) (ownTables (intakeImage drive)) (none (designNumber drive) (bufferNumber (length (intakeImage drive)) (length (intakeImage drive))) h .0) .0
+
+  pub one-step-label : labelText drive state target ≡ former.labelText drive state target
   unfolding labelText former.labelText
-  label = rw (same .image, same .number) (by (eqb number 0) refl)
+  one-step-label =
+      let same = one-step drive (length (intakeImage drive)) e in
+      rw (← (same .image), ← (same .number)) (by (eqb number 0) refl)
     where
       by : (b : Bool) → eqb number 0 ≡ b
-          → cond b (imageText (former.intakeImage drive) state target) (refusal number) ≡ cond b (former.imageText (former.intakeImage drive) state) (refusal number)
-      by true e =
-          rw (← (same .image))
-          (text-same (intakeImage drive) state target (accepted-image drive (length (former.intakeImage drive)) (same .number ∙ eqb-true number 0 e)) (same .targets))
-      by false e = refl
+          → cond b (imageText (intakeImage drive) state target) (refusal number) ≡ cond b (former.imageText (intakeImage drive) state target) (refusal number)
+      by true q = text-same (intakeImage drive) state target (image-one drive e (passes (eqb-true number 0 q)))
+      by false q = refl

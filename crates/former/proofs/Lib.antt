@@ -1,4 +1,6 @@
 -- The laws that docs cite.
-pub mod Images
+pub mod Calls
+pub mod Due
 pub mod Sheets
 pub mod Labels
+pub mod Parting

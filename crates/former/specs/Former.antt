@@ -1,58 +1,105 @@
--- The definitions as they stood before request 1, "Following a target": those that differ, each with the name and the text that it had, and
--- those that are over them. All else is cited. The record `Sizes` has nr since; here nr is 0, and nothing reads it. Where Φ and the state
--- limits were meant and the target's are meant today too, `State` stands. Definitions only.
-use Prim.Native.Nat.{ℕ, _+_, _*_, _/_, _%_}
-use mathlib.Core.Bool.{Bool, _&&_, cond}
+-- The definitions as they stood before request 3, "Limits that change along the horizon": those that differ, each with the name and the
+-- text that it had, and those that are over them. All else is cited. A sheet had nu lines of kind 04 and nu of kind 05, row the motor,
+-- column 0, and an image nu lows and nu highs. Definitions only.
+use Prim.Native.Nat.{ℕ, _+_, _-_, _*_, _%_, _^_}
+use mathlib.Core.Bool.{Bool, cond, _&&_}
 use mathlib.Core.List.{List, [], _∷_, _++_, map}
 use lib.Dec.{eqb, leb}
-use lib.IntN.{ℤ, pos, natAbs}
+use lib.IntN.{ℤ, pos, natAbs, _+ℤ_, _-ℤ_, _*ℤ_}
+use lib.Signed.{leZ}
 use lib.Ieee.{Float}
-use lib.ListN.{length}
-use Rattle.word.specs.Word.{natAt, wordsAt, wordsOut}
-use Rattle.word.specs.Format.{isFormat, top}
-use Rattle.double.specs.Double.{convert, convertedNumber, ruleOf}
-use Rattle.double.specs.declared.Converted.{Converted}
-use Rattle.double.specs.declared.Rounding.{Rounding}
-use Rattle.double.specs.declared.Rounding.the-variants.{Down, Up}
+use lib.ListN.{drop, length}
+use Rattle.word.specs.Word.{natAt, wordAt, wordsAt, wordsOut}
+use Rattle.word.specs.Buffer.{joined}
+use Rattle.word.specs.Format.{top}
+use Rattle.double.specs.Double.{doubleValue}
 use Rattle.gradient.specs.Index.{tab, allTo}
 use Rattle.gradient.specs.Problem.{Command, Problem, coldStart}
 use Rattle.gradient.specs.Scheme.{iterate}
 use Rattle.gradient.specs.Bounds.{rangeP, rangeY, rangeA, rangeB, errorAfter}
-use Rattle.gradient.specs.Demand.{inputsWithin, startWithin}
+use Rattle.gradient.specs.Demand.{every2, startWithin}
 use Rattle.image.specs.declared.Sizes.{Sizes}
-use Rattle.image.specs.declared.Input.the-variants.{State}
+use Rattle.image.specs.declared.Input.{Input}
+use Rattle.image.specs.declared.Input.the-variants.{State, Target}
 use Rattle.image.specs.Order.{check, firstFault, orElse}
-use Rattle.image.specs.Sizes.{between, commandCount}
-use Rattle.image.specs.Layout.{gainRow, lowerAt, upperAt, momentumAt, boundPlace, entryAt}
-use Rattle.image.specs.Checks.{wordTest, boundTest}
-use Rattle.interface.specs.Tables.{orderTest, symmetryTest, marginTest, totalTest, momentumRange, momentumRatio}
-use Rattle.interface.specs.Calls.{startOf, coldCallNumber}
-use Rattle.line.specs.Line.{lineAt, lineNumber}
-use Rattle.line.specs.declared.Line.{Line}
-use Rattle.line.specs.declared.Line.the-variants.{Frame, Malformed, End}
+use Rattle.image.specs.Sizes.{commandCount, inputCount, sound}
+use Rattle.image.specs.Layout.{sizesOf, gainPlace, lowerPlace, entryAt}
+use Rattle.image.specs.Checks.{wordTest}
+use Rattle.interface.specs.Tables.{symmetryTest, marginTest, totalTest, leastMargin, largestTotal}
+use Rattle.interface.specs.Calls.{valuesOf, inputsOf, startOf, coldCallNumber}
+use Rattle.line.specs.Line.{lineAt}
 use Rattle.frame.specs.declared.Due.{Due}
 use Rattle.frame.specs.declared.Head.{Head}
 use Rattle.frame.specs.declared.Head.the-variants.{Sized, Unsized}
 use Rattle.frame.specs.declared.Value.{Value}
-use Rattle.frame.specs.declared.Value.the-variants.{Double, Fault}
-use Rattle.frame.specs.Frame.{Table, table, countIn, dueIn, notBelowZero, convertedWord, valueOf, valueDouble}
+use Rattle.frame.specs.Frame.{Table, table, countIn, dueIn, headOf, wordOf, convertedWord, valueOf, valueNumber, valueDouble}
+use Rattle.lines.specs.Lines.{sizeWords}
 use Rattle.sheet.specs.Sheet.{first}
+use Rattle.intake.specs.Intake.{bufferNumber}
+use Rattle.page_line.specs.declared.Effect.{Effect}
+use Rattle.page_line.specs.Effect.{effectOf, lineText}
 use Rattle.word_file.specs.WordFile.{isWordFile, fileWords}
 use Rattle.text.specs.Text.{lines, printed}
+use Rattle.label_files.specs.Files.{targetForm}
 
--- ---- image: sizes, layout, checks 6, 3, 6 and 5
-unfoldable pub sound : Sizes → Bool
-sound z =
-    between 1 4 (z .nu) && between 1 16 (z .steps) && leb (commandCount z) 16 && between 1 12 (z .nx) && isFormat (z .b) (z .w) && between 1 400 (z .sweeps)
-
+-- ---- image: how many words, and where each stands
 abbrev pub bodyCount : Sizes → ℕ
-bodyCount z = commandCount z * commandCount z + commandCount z * z .nx + 2 * z .nu + 1 + z .nx
+bodyCount z = commandCount z * commandCount z + commandCount z * z .nx + 2 * z .nu + 1 + z .nx + commandCount z * z .nr + z .nr
 
-unfoldable pub sizesOf : List ℕ → Sizes
-sizesOf s = record { nu = natAt s 0; steps = natAt s 4; nx = natAt s 8; b = natAt s 12; w = natAt s 16; sweeps = natAt s 20; nr = 0 }
+abbrev pub upperPlace : Sizes → ℕ
+upperPlace z = lowerPlace z + 4 * z .nu
+
+abbrev pub momentumPlace : Sizes → ℕ
+momentumPlace z = upperPlace z + 4 * z .nu
+
+abbrev pub boundPlace : Sizes → ℕ
+boundPlace z = momentumPlace z + 4
+
+abbrev pub targetGainPlace : Sizes → ℕ
+targetGainPlace z = boundPlace z + 4 * z .nx
+
+abbrev pub targetBoundPlace : Sizes → ℕ
+targetBoundPlace z = targetGainPlace z + 4 * (commandCount z * z .nr)
+
+abbrev pub gainsFrom : Input → Sizes → ℕ
+gainsFrom State z = gainPlace z
+gainsFrom Target z = targetGainPlace z
+
+abbrev pub boundsFrom : Input → Sizes → ℕ
+boundsFrom State z = boundPlace z
+boundsFrom Target z = targetBoundPlace z
+
+abbrev pub gainOffset : Input → Sizes → ℕ → ℕ
+gainOffset v z i = gainsFrom v z + 4 * (i * inputCount v z)
+
+abbrev pub gainRow : Input → Sizes → List ℕ → ℕ → List ℕ
+gainRow v z s i = drop (gainOffset v z i) s
+
+unfoldable pub lowerAt : Sizes → List ℕ → ℕ → ℤ
+lowerAt z s k = wordAt s (lowerPlace z + 4 * (k % z .nu))
+
+unfoldable pub upperAt : Sizes → List ℕ → ℕ → ℤ
+upperAt z s k = wordAt s (upperPlace z + 4 * (k % z .nu))
+
+unfoldable pub momentumAt : Sizes → List ℕ → ℤ
+momentumAt z s = wordAt s (momentumPlace z)
+
+unfoldable pub boundAt : Input → Sizes → List ℕ → ℕ → ℤ
+boundAt v z s j = wordAt s (boundsFrom v z + 4 * j)
+
+abbrev pub gainsOf : Input → Sizes → List ℕ → ℕ → List ℤ
+gainsOf v z s k = wordsAt (gainRow v z s k) 0 (inputCount v z)
+
+abbrev pub boundsOf : Input → Sizes → List ℕ → List ℕ
+boundsOf v z s = map natAbs (wordsAt s (boundsFrom v z) (inputCount v z))
 
 unfoldable pub commandAt : Sizes → List ℕ → ℕ → Command
-commandAt z s k = record { lower = lowerAt z s k; upper = upperAt z s k; row = tab (entryAt z s k) (commandCount z); gains = wordsAt (gainRow State z s k) 0 (z .nx) }
+commandAt z s k = record {
+  lower = lowerAt z s k;
+  upper = upperAt z s k;
+  row = tab (entryAt z s k) (commandCount z);
+  gains = gainsOf State z s k ++ gainsOf Target z s k;
+}
 
 unfoldable pub problemAt : Sizes → List ℕ → Problem
 problemAt z s = record {
@@ -61,26 +108,46 @@ problemAt z s = record {
   iterations = z .sweeps;
   momentum = natAbs (momentumAt z s);
   commands = tab (commandAt z s) (commandCount z);
-  inputBounds = map natAbs (wordsAt s (boundPlace z) (z .nx));
+  inputBounds = boundsOf State z s ++ boundsOf Target z s;
 }
 
 unfoldable pub problemOf : List ℕ → Problem
 problemOf s = problemAt (sizesOf s) s
 
+-- ---- image: checks 6, 3, 6 and 5
 unfoldable pub headNumber : List ℕ → ℕ
 headNumber s =
     firstFault
     (check 6 (leb 32 (length s))
     ∷ check 3 (sound (sizesOf s))
-    ∷ check 3 (eqb (natAt s 24) 0)
     ∷ check 3 (eqb (natAt s 28) 0)
     ∷ check 6 (eqb (length s) (4 * (8 + bodyCount (sizesOf s))))
     ∷ [])
 
-unfoldable pub bodyNumber : Sizes → List ℕ → ℕ
-bodyNumber z s = firstFault (check 5 (allTo (wordTest z s) (bodyCount z)) ∷ check 5 (allTo (boundTest State z s) (z .nx)) ∷ [])
+abbrev pub boundTest : Input → Sizes → List ℕ → ℕ → Bool
+boundTest v z s j = leZ (pos 0) (boundAt v z s j)
 
--- ---- interface: checks 7 to 12, the calls and their answers
+unfoldable pub bodyNumber : Sizes → List ℕ → ℕ
+bodyNumber z s =
+    firstFault
+    (check 5 (allTo (wordTest z s) (bodyCount z))
+    ∷ check 5 (allTo (boundTest State z s) (z .nx))
+    ∷ check 5 (allTo (boundTest Target z s) (z .nr))
+    ∷ [])
+
+-- ---- interface: checks 7 to 12
+abbrev pub orderTest : Sizes → List ℕ → ℕ → Bool
+orderTest z s i = leZ (lowerAt z s i) (upperAt z s i)
+
+unfoldable pub momentumRange : Sizes → List ℕ → Bool
+momentumRange z s = leZ (pos 0) (momentumAt z s) && leZ (momentumAt z s) (pos (2 ^ z .b - 1))
+
+unfoldable pub momentumRatio : Sizes → List ℕ → Bool
+momentumRatio z s =
+    let f = pos (2 ^ z .b) in
+    let m = momentumAt z s in
+    leZ ((f -ℤ m) *ℤ (f -ℤ m) *ℤ largestTotal z s) ((f +ℤ m) *ℤ (f +ℤ m) *ℤ leastMargin z s)
+
 unfoldable pub pointTest : Sizes → List ℕ → ℕ → Bool
 pointTest z s i = leb (rangeP (problemAt z s) (commandAt z s i)) (top (z .w)) && leb (rangeY (problemAt z s) (commandAt z s i)) (top (z .w))
 
@@ -104,63 +171,47 @@ tablesNumber z s =
 unfoldable pub imageNumber : List ℕ → ℕ
 imageNumber s = orElse (headNumber s) (orElse (bodyNumber (sizesOf s) s) (tablesNumber (sizesOf s) s))
 
-unfoldable pub inputsOf : Sizes → List ℕ → List ℤ
-inputsOf z state = wordsAt state 0 (z .nx)
-
+-- ---- interface: the calls and their answers
 unfoldable pub coldNumber : List ℕ → ℕ → ℕ
 coldNumber image room = orElse (imageNumber image) (coldCallNumber (sizesOf image) room)
 
 unfoldable pub coldAnswer : List ℕ → List ℕ
 coldAnswer image = wordsOut (coldStart (problemOf image))
 
-unfoldable pub callNumber : List ℕ → List ℕ → List ℕ → ℕ → ℕ
-callNumber image state start room =
+unfoldable pub valuesWithin : Input → Sizes → List ℕ → List ℕ → Bool
+valuesWithin v z image values = every2 (λ (x : ℤ) (b : ℕ). leb (natAbs x) b) (valuesOf v z values) (boundsOf v z image)
+
+abbrev pub inputPasses : Input → Sizes → List ℕ → List ℕ → Bool
+inputPasses v z image values = eqb (length values) (4 * inputCount v z) && valuesWithin v z image values
+
+unfoldable pub callNumber : List ℕ → List ℕ → List ℕ → List ℕ → ℕ → ℕ
+callNumber image state target start room =
     let z = sizesOf image in
     let p = problemOf image in
     firstFault
-    (check 13 (eqb (length state) (4 * z .nx))
-    ∷ check 13 (inputsWithin p (inputsOf z state))
+    (check 13 (inputPasses State z image state)
+    ∷ check 16 (inputPasses Target z image target)
     ∷ check 14 (eqb (length start) (4 * commandCount z))
     ∷ check 14 (startWithin p (startOf z start))
     ∷ check 15 (eqb room (8 * commandCount z))
     ∷ [])
 
-unfoldable pub solveNumber : List ℕ → List ℕ → List ℕ → ℕ → ℕ
-solveNumber image state start room = orElse (imageNumber image) (callNumber image state start room)
+unfoldable pub solveNumber : List ℕ → List ℕ → List ℕ → List ℕ → ℕ → ℕ
+solveNumber image state target start room = orElse (imageNumber image) (callNumber image state target start room)
 
-unfoldable pub commandsAfter : List ℕ → List ℕ → List ℕ → ℕ → List ℤ
-commandsAfter image state start k = iterate (problemOf image) (inputsOf (sizesOf image) state) (startOf (sizesOf image) start) k .z
+unfoldable pub commandsAfter : List ℕ → List ℕ → List ℕ → List ℕ → ℕ → List ℤ
+commandsAfter image state target start k = iterate (problemOf image) (inputsOf (sizesOf image) state target) (startOf (sizesOf image) start) k .z
 
 unfoldable pub boundsAfter : List ℕ → ℕ → List ℕ
 boundsAfter image k = errorAfter (problemOf image) k .e
 
-abbrev pub answerAfter : List ℕ → List ℕ → List ℕ → ℕ → List ℕ
-answerAfter image state start k = wordsOut (commandsAfter image state start k) ++ wordsOut (map pos (boundsAfter image k))
+abbrev pub answerAfter : List ℕ → List ℕ → List ℕ → List ℕ → ℕ → List ℕ
+answerAfter image state target start k = wordsOut (commandsAfter image state target start k) ++ wordsOut (map pos (boundsAfter image k))
 
-unfoldable pub solveAnswer : List ℕ → List ℕ → List ℕ → List ℕ
-solveAnswer image state start = answerAfter image state start (sizesOf image .sweeps)
+unfoldable pub solveAnswer : List ℕ → List ℕ → List ℕ → List ℕ → List ℕ
+solveAnswer image state target start = answerAfter image state target start (sizesOf image .sweeps)
 
--- ---- frame: line 01, the lines due after it, the word of a line's double
-abbrev pub frameSizes : ℕ → ℕ → ℕ → Sizes
-frameSizes row column bits = record {
-  nu = row;
-  steps = column;
-  nx = bits / 0x100_0000_0000_0000;
-  b = bits / 0x1_0000_0000_0000 % 256;
-  w = bits / 0x100_0000_0000 % 256;
-  sweeps = bits / 65536 % 65536;
-  nr = 0;
-}
-
-abbrev pub frameZeros : ℕ → Bool
-frameZeros bits = eqb (bits / 0x1_0000_0000 % 256) 0 && eqb (bits % 65536) 0
-
-unfoldable pub headOf : Line → Head
-headOf End = Unsized (lineNumber End)
-headOf Malformed = Unsized (lineNumber Malformed)
-headOf (Frame kind row column bits) =
-    cond (eqb kind 1 && frameZeros bits) (cond (sound (frameSizes row column bits)) (Sized (frameSizes row column bits)) (Unsized 3)) (Unsized 2)
-
+-- ---- frame: the lines due after line 01
 abbrev pub tables : Sizes → List Table
 tables z =
     table 2 (commandCount z) (commandCount z)
@@ -169,6 +220,8 @@ tables z =
     ∷ table 5 (z .nu) 1
     ∷ table 6 1 1
     ∷ table 7 (z .nx) 1
+    ∷ table 8 (commandCount z) (z .nr)
+    ∷ table 9 (z .nr) 1
     ∷ []
 
 unfoldable pub total : Sizes → ℕ
@@ -176,17 +229,6 @@ total z = countIn (tables z)
 
 unfoldable pub dueAt : Sizes → ℕ → Due
 dueAt z i = dueIn (tables z) i
-
-abbrev pub roundingOf : ℕ → Rounding
-roundingOf kind = cond (leb kind 3) Down (cond (eqb kind 5) Down Up)
-
-unfoldable pub wordOf : Sizes → ℕ → Float → Converted
-wordOf z kind x =
-    cond (eqb kind 7) (notBelowZero (convert (ruleOf (roundingOf kind)) (z .b) (z .w) x)) (convert (ruleOf (roundingOf kind)) (z .b) (z .w) x)
-
-abbrev pub valueNumber : Sizes → ℕ → Value → ℕ
-valueNumber z kind (Double x) = convertedNumber (wordOf z kind x)
-valueNumber z kind (Fault n) = n
 
 -- ---- lines: a line after line 01 by its place
 unfoldable pub lineValue : Sizes → List ℕ → ℕ → Value
@@ -200,9 +242,6 @@ lineFault z s i = valueNumber z (dueAt z i .kind) (lineValue z s i)
 
 unfoldable pub lineWord : Sizes → List ℕ → ℕ → ℤ
 lineWord z s i = convertedWord (wordOf z (dueAt z i .kind) (lineDouble z s i))
-
-abbrev pub sizeWords : Sizes → List ℤ
-sizeWords z = pos (z .nu) ∷ pos (z .steps) ∷ pos (z .nx) ∷ pos (z .b) ∷ pos (z .w) ∷ pos (z .sweeps) ∷ pos 0 ∷ pos 0 ∷ []
 
 -- ---- sheet: the number through lines and end, and the image
 abbrev pub endNumber : Sizes → List ℕ → ℕ
@@ -236,23 +275,63 @@ sheetImage s = wordsOut (sheetWords s)
 abbrev pub ownTables : List ℕ → ℕ
 ownTables image = tablesNumber (sizesOf image) image
 
+unfoldable pub designNumber : List ℕ → ℕ
+designNumber sheet = orElse (sheetNumber sheet) (ownTables (sheetImage sheet))
+
 unfoldable pub intakeNumber : List ℕ → ℕ → ℕ
-intakeNumber sheet room =
-    orElse (sheetNumber sheet) (orElse (ownTables (sheetImage sheet)) (firstFault (check 15 (eqb room (length (sheetImage sheet))) ∷ [])))
+intakeNumber sheet room = orElse (designNumber sheet) (bufferNumber (length (sheetImage sheet)) room)
 
 abbrev pub intakeImage : List ℕ → List ℕ
 intakeImage sheet = sheetImage sheet
 
--- ---- label_text: what the label program printed (`isWordFile` and `fileWords` had the names `isState` and `stateWords`)
-unfoldable pub stateNumber : List ℕ → List ℕ → ℕ
-stateNumber image state =
-    let z = sizesOf image in
-    orElse (firstFault (check 13 (isWordFile (z .nx) state) ∷ [])) (solveNumber image (fileWords (z .nx) state) (coldAnswer image) (8 * commandCount z))
+-- ---- design_page: the page of a sheet
+abbrev pub wordDouble : Sizes → List ℕ → ℕ → Float
+wordDouble z s i = doubleValue (z .b) (z .w) (lineWord z s i)
 
-unfoldable pub imageText : List ℕ → List ℕ → List ℕ
-imageText image state =
-    let z = sizesOf image in
-    printed (stateNumber image state) (lines (commandCount z) (solveAnswer image (fileWords (z .nx) state) (coldAnswer image)) (commandCount z))
+abbrev pub lineEffect : Sizes → List ℕ → ℕ → Effect
+lineEffect z s i = effectOf (lineDouble z s i) (wordDouble z s i)
 
-unfoldable pub labelText : List ℕ → List ℕ → List ℕ
-labelText drive state = printed (intakeNumber drive (length (intakeImage drive))) (imageText (intakeImage drive) state)
+unfoldable pub pageLine : Sizes → List ℕ → ℕ → List ℕ
+pageLine z s i = lineText (dueAt z i) (lineEffect z s i)
+
+abbrev pub linesPage : Sizes → List ℕ → List ℕ
+linesPage z s = joined (pageLine z s) (total z)
+
+abbrev pub headPage : Head → List ℕ → List ℕ
+headPage (Sized z) s = linesPage z s
+headPage (Unsized n) s = []
+
+unfoldable pub sheetPage : List ℕ → List ℕ
+sheetPage s = headPage (headOf (lineAt s 0)) s
+
+abbrev pub headCount : Head → ℕ
+headCount (Sized z) = total z
+headCount (Unsized n) = 0
+
+unfoldable pub designCount : List ℕ → ℕ
+designCount s = headCount (headOf (lineAt s 0))
+
+unfoldable pub pageNumber : List ℕ → ℕ → ℕ
+pageNumber sheet room = orElse (designNumber sheet) (bufferNumber (44 * designCount sheet) room)
+
+-- ---- label_files, label_text: what the label program printed
+unfoldable pub formNumber : Sizes → List ℕ → List ℕ → List ℕ → ℕ
+formNumber z image state target =
+    firstFault
+    (check 13 (isWordFile (z .nx) state)
+    ∷ check 13 (inputPasses State z image (fileWords (z .nx) state))
+    ∷ check 16 (targetForm (z .nr) target)
+    ∷ [])
+
+unfoldable pub filesNumber : List ℕ → List ℕ → List ℕ → ℕ
+filesNumber image state target =
+    let z = sizesOf image in
+    orElse (formNumber z image state target) (solveNumber image (fileWords (z .nx) state) (fileWords (z .nr) target) (coldAnswer image) (8 * commandCount z))
+
+unfoldable pub imageText : List ℕ → List ℕ → List ℕ → List ℕ
+imageText image state target =
+    let z = sizesOf image in
+    printed (filesNumber image state target) (lines (commandCount z) (solveAnswer image (fileWords (z .nx) state) (fileWords (z .nr) target) (coldAnswer image)) (commandCount z))
+
+unfoldable pub labelText : List ℕ → List ℕ → List ℕ → List ℕ
+labelText drive state target = printed (intakeNumber drive (length (intakeImage drive))) (imageText (intakeImage drive) state target)

@@ -1,3 +1,3 @@
--- The definitions before request 1, and what is unchanged.
+-- The definitions before request 3, and what became of what was accepted by them.
 pub mod Former
-pub mod Unchanged
+pub mod Relaid
