@@ -14,13 +14,13 @@ use Rattle.double.specs.Double.{conversionNumber, rounded, roundUp, roundDown}
 use Rattle.gradient.specs.Demand.{every2}
 use Rattle.interface.specs.Tables.{eqZ, imageNumber}
 use Rattle.interface.specs.Calls.{coldAnswer, solveNumber, commandsAfter, boundsAfter}
-use Rattle.sheet.specs.Sample.{changed, lines, text}
+use Rattle.sheet.specs.Sample.{changed, formerLines, lines, mixedLines, stepLines, text}
 use Rattle.design_page.specs.Page.{pageNumber, sheetPage}
 
 -- a case, and what the document says of it
 pub data Case : Type 0 where
-  -- an image, a state, a target, sweeps s: from the cold start, the command and the bound after s
-  solves : List ℕ → ℤ → List ℤ → ℕ → ℤ → ℕ → Case
+  -- an image, a state, a target, sweeps s: from the cold start, the commands and the bounds after s
+  solves : List ℕ → ℤ → List ℤ → ℕ → List ℤ → List ℕ → Case
   -- an image has a number
   numbers : List ℕ → ℕ → Case
   -- an image does not have a number
@@ -35,8 +35,8 @@ pub data Case : Type 0 where
   pages : List ℕ → ℕ → ℕ → Case
 
 unfoldable pub holds : Case → Bool
-holds (solves image x t s z e) =
-    every2 eqZ (commandsAfter image (wordsOut (x ∷ [])) (wordsOut t) (coldAnswer image) s) (z ∷ []) && every2 eqb (boundsAfter image s) (e ∷ [])
+holds (solves image x t s zs es) =
+    every2 eqZ (commandsAfter image (wordsOut (x ∷ [])) (wordsOut t) (coldAnswer image) s) zs && every2 eqb (boundsAfter image s) es
 holds (numbers image n) = eqb (imageNumber image) n
 holds (passes image n) = not (eqb (imageNumber image) n)
 holds (answers image x t n) = eqb (solveNumber image (wordsOut (x ∷ [])) (wordsOut t) (coldAnswer image) 8) n
@@ -50,34 +50,39 @@ unfoldable pub S : ℕ → ℕ → ℕ → List ℕ
 S beta l bound =
     wordsOut (map pos (1 ∷ 1 ∷ 1 ∷ 4 ∷ 8 ∷ 3 ∷ 0 ∷ 0 ∷ 8 ∷ 16 ∷ []) ++ (lib.IntN.negℤ (pos l) ∷ map pos (l ∷ beta ∷ bound ∷ [])))
 
--- one motor, two steps, and H with rows (d, o), (o, d); otherwise S's values
+-- one motor, two steps, and H with rows (d, o), (o, d); otherwise S's values, the limits at both steps
 unfoldable pub two : ℕ → ℕ → ℕ → List ℕ
 two d o beta =
-    wordsOut (map pos (1 ∷ 2 ∷ 1 ∷ 4 ∷ 8 ∷ 3 ∷ 0 ∷ 0 ∷ d ∷ o ∷ o ∷ d ∷ 16 ∷ 16 ∷ []) ++ (negsuc 19 ∷ map pos (20 ∷ beta ∷ 10 ∷ [])))
+    wordsOut (map pos (1 ∷ 2 ∷ 1 ∷ 4 ∷ 8 ∷ 3 ∷ 0 ∷ 0 ∷ d ∷ o ∷ o ∷ d ∷ 16 ∷ 16 ∷ []) ++ (negsuc 19 ∷ negsuc 19 ∷ map pos (20 ∷ 20 ∷ beta ∷ 10 ∷ [])))
 
 -- S with one target value of limit `bound`, and −1 as its entry of the target table: h is the state less the target
 unfoldable pub following : ℕ → List ℕ
 following bound =
     wordsOut (map pos (1 ∷ 1 ∷ 1 ∷ 4 ∷ 8 ∷ 3 ∷ 1 ∷ 0 ∷ 8 ∷ 16 ∷ []) ++ (negsuc 19 ∷ map pos (20 ∷ 0 ∷ 10 ∷ []) ++ (negsuc 15 ∷ pos bound ∷ [])))
 
+-- one motor, two steps that do not touch each other: step 0 has S's limits, step 1 limits of its own
+unfoldable pub easing : ℕ → ℤ → ℤ → List ℕ
+easing beta low high =
+    wordsOut (map pos (1 ∷ 2 ∷ 1 ∷ 4 ∷ 8 ∷ 3 ∷ 0 ∷ 0 ∷ 8 ∷ 0 ∷ 0 ∷ 8 ∷ 16 ∷ 16 ∷ []) ++ (negsuc 19 ∷ low ∷ pos 20 ∷ high ∷ map pos (beta ∷ 10 ∷ [])))
+
 -- ---- the table
 unfoldable pub table : List Case
 table =
     -- S, sweeps 1 to 5
-    solves (S 0 20 10) (pos 10) [] 1 (negsuc 9) 1
-    ∷ solves (S 0 20 10) (pos 10) [] 2 (negsuc 14) 2
-    ∷ solves (S 0 20 10) (pos 10) [] 3 (negsuc 17) 3
-    ∷ solves (S 0 20 10) (pos 10) [] 4 (negsuc 18) 3
-    ∷ solves (S 0 20 10) (pos 10) [] 5 (negsuc 19) 3
+    solves (S 0 20 10) (pos 10) [] 1 (negsuc 9 ∷ []) (1 ∷ [])
+    ∷ solves (S 0 20 10) (pos 10) [] 2 (negsuc 14 ∷ []) (2 ∷ [])
+    ∷ solves (S 0 20 10) (pos 10) [] 3 (negsuc 17 ∷ []) (3 ∷ [])
+    ∷ solves (S 0 20 10) (pos 10) [] 4 (negsuc 18 ∷ []) (3 ∷ [])
+    ∷ solves (S 0 20 10) (pos 10) [] 5 (negsuc 19 ∷ []) (3 ∷ [])
     -- S with β 8 counts, sweeps 1 to 4
-    ∷ solves (S 8 20 10) (pos 10) [] 1 (negsuc 9) 1
-    ∷ solves (S 8 20 10) (pos 10) [] 2 (negsuc 17) 3
-    ∷ solves (S 8 20 10) (pos 10) [] 3 (negsuc 19) 4
-    ∷ solves (S 8 20 10) (pos 10) [] 4 (negsuc 19) 6
+    ∷ solves (S 8 20 10) (pos 10) [] 1 (negsuc 9 ∷ []) (1 ∷ [])
+    ∷ solves (S 8 20 10) (pos 10) [] 2 (negsuc 17 ∷ []) (3 ∷ [])
+    ∷ solves (S 8 20 10) (pos 10) [] 3 (negsuc 19 ∷ []) (4 ∷ [])
+    ∷ solves (S 8 20 10) (pos 10) [] 4 (negsuc 19 ∷ []) (6 ∷ [])
     -- S with limits −1 and 1 counts, sweeps 1 to 3
-    ∷ solves (S 0 1 10) (pos 10) [] 1 (negsuc 0) 1
-    ∷ solves (S 0 1 10) (pos 10) [] 2 (negsuc 0) 2
-    ∷ solves (S 0 1 10) (pos 10) [] 3 (negsuc 0) 2
+    ∷ solves (S 0 1 10) (pos 10) [] 1 (negsuc 0 ∷ []) (1 ∷ [])
+    ∷ solves (S 0 1 10) (pos 10) [] 2 (negsuc 0 ∷ []) (2 ∷ [])
+    ∷ solves (S 0 1 10) (pos 10) [] 3 (negsuc 0 ∷ []) (2 ∷ [])
     -- S with state limit 117 counts is accepted, with 118 refused 12
     ∷ numbers (S 0 20 117) 0
     ∷ numbers (S 0 20 118) 12
@@ -94,10 +99,10 @@ table =
     ∷ answers (S 0 20 10) (pos 10) [] 0
     ∷ answers (S 0 20 10) (pos 11) [] 13
     -- request 1: a target of 5 counts leaves h 5, sweeps 1 to 3, with c 2; the state's own value as target leaves 0
-    ∷ solves (following 10) (pos 10) (pos 5 ∷ []) 1 (negsuc 4) 2
-    ∷ solves (following 10) (pos 10) (pos 5 ∷ []) 2 (negsuc 7) 4
-    ∷ solves (following 10) (pos 10) (pos 5 ∷ []) 3 (negsuc 8) 5
-    ∷ solves (following 10) (pos 10) (pos 10 ∷ []) 3 (pos 0) 5
+    ∷ solves (following 10) (pos 10) (pos 5 ∷ []) 1 (negsuc 4 ∷ []) (2 ∷ [])
+    ∷ solves (following 10) (pos 10) (pos 5 ∷ []) 2 (negsuc 7 ∷ []) (4 ∷ [])
+    ∷ solves (following 10) (pos 10) (pos 5 ∷ []) 3 (negsuc 8 ∷ []) (5 ∷ [])
+    ∷ solves (following 10) (pos 10) (pos 10 ∷ []) 3 (pos 0 ∷ []) (5 ∷ [])
     -- A is 10 and the state's part of B 10: a target limit of 107 counts is accepted, 108 refused 12
     ∷ numbers (following 107) 0
     ∷ numbers (following 108) 12
@@ -119,4 +124,18 @@ table =
     ∷ pages (text lines) 263 15
     ∷ pages (changed 6 0x070000401D800000000000) 263 12
     ∷ pages [] 0 4
+    -- request 3: step 1 with limits −5 and 5, sweeps 1 to 3; with −1 and 2, where w holds the bound of step 1 alone
+    ∷ solves (easing 0 (negsuc 4) (pos 5)) (pos 10) [] 1 (negsuc 9 ∷ negsuc 4 ∷ []) (2 ∷ 2 ∷ [])
+    ∷ solves (easing 0 (negsuc 4) (pos 5)) (pos 10) [] 2 (negsuc 14 ∷ negsuc 4 ∷ []) (4 ∷ 4 ∷ [])
+    ∷ solves (easing 0 (negsuc 4) (pos 5)) (pos 10) [] 3 (negsuc 17 ∷ negsuc 4 ∷ []) (5 ∷ 5 ∷ [])
+    ∷ solves (easing 0 (negsuc 0) (pos 2)) (pos 10) [] 3 (negsuc 17 ∷ negsuc 0 ∷ []) (5 ∷ 3 ∷ [])
+    -- by step 1 alone: 7; with β 8 counts Y is zb + w / 2, so −62 and 64 are accepted, −63 and 64 refused 12
+    ∷ numbers (easing 0 (pos 6) (pos 5)) 7
+    ∷ numbers (easing 8 (negsuc 61) (pos 64)) 0
+    ∷ numbers (easing 8 (negsuc 62) (pos 64)) 12
+    -- the page of step 1's low limit; a 05 before the last 04; the former layout, all of whose limits stand in column 0
+    ∷ prints (text stepLines) 7 "04 0001 BFD4000000000000 BFD4000000000000 K"
+    ∷ pages (text stepLines) 528 0
+    ∷ pages (text mixedLines) 528 2
+    ∷ pages (text formerLines) 440 2
     ∷ []
