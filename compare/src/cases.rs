@@ -1,8 +1,8 @@
 //! Document 01's cases at the edges as one table, the starred ones among them, and a few of our own behind them: edges
-//! that it implies, and those of requests 1 and 2. The figures of ours are worked out by hand from the papers.
+//! that it implies, and those of requests 1 to 3. The figures of ours are worked out by hand from the papers.
 
 use crate::double::of_count;
-use crate::draft::{Draft, text};
+use crate::draft::{Draft, keep_former, text};
 use crate::drive::{Call, Kind, Outcome};
 use crate::harness::Harness;
 use crate::image::{
@@ -36,6 +36,7 @@ const PAGE_OF_SAMPLE: &str = "\
 /// The line that request 2 prints: half a count.
 const PRINTED: &str = "05 0000 3FA0000000000000 0000000000000000 M";
 
+#[derive(Clone)]
 enum Expect {
     Refused(Number),
     Accepted,
@@ -43,6 +44,8 @@ enum Expect {
     Answer(Vec<i64>),
     /// The first words of a section of the sheet's image.
     Words(u8, Vec<i64>),
+    /// The sheet's image in words.
+    Image(Vec<i64>),
     /// The sheet's page.
     Page(String),
     /// Lengths of a page's buffer that are all 15.
@@ -128,9 +131,17 @@ pub fn sample() -> Draft {
 
 /// S with two steps and the rows (a, b), (b, a) for H.
 fn two_steps(a: i64, b: i64) -> Draft {
-    let sizes = Sizes { steps: 2, ..sample().sizes };
-    let draft = Draft::new(sizes).with(COST, &[a, b, b, a]).with(GAIN, &[16, 16]);
-    draft.with(LOW, &[-20]).with(HIGH, &[20]).with(STATE_LIMIT, &[10])
+    uncoupled(Sizes { steps: 2, ..sample().sizes }).with(COST, &[a, b, b, a])
+}
+
+/// S with other sizes. The commands have no part in each other.
+fn uncoupled(sizes: Sizes) -> Draft {
+    let (mut draft, n) = (Draft::new(sizes), sizes.commands());
+    draft.section(COST).iter_mut().step_by(n + 1).for_each(|diagonal| *diagonal = 8);
+    for (kind, word) in [(GAIN, 16), (LOW, -20), (HIGH, 20), (STATE_LIMIT, 10)] {
+        draft.section(kind).fill(word);
+    }
+    draft
 }
 
 /// A small problem with two motors and two states that is not in the table.
@@ -173,6 +184,10 @@ pub fn table() -> Vec<Case> {
     table.extend(followed_targets());
     table.extend(refused_targets());
     table.extend(target_lines());
+    table.extend(held_by_steps());
+    table.extend(refused_steps());
+    table.extend(headroom_of_steps());
+    table.extend(step_lines());
     table.extend(pages_of_s());
     table.extend(other_pages());
     table.extend(no_pages());
@@ -199,14 +214,10 @@ fn our_own() -> Vec<Case> {
     table
 }
 
-/// S with targets, and with a step for each row of the table. The steps have no part in each other.
+/// S with targets, and with a step for each row of the table.
 fn with_targets(table: &[i64], limits: &[i64]) -> Draft {
-    let steps = table.len() / limits.len();
-    let mut draft = Draft::new(Sizes { steps, targets: limits.len(), ..sample().sizes });
-    draft.section(COST).iter_mut().step_by(steps + 1).for_each(|diagonal| *diagonal = 8);
-    draft.section(GAIN).fill(16);
-    let draft = draft.with(LOW, &[-20]).with(HIGH, &[20]).with(STATE_LIMIT, &[10]);
-    draft.with(TARGET_GAIN, table).with(TARGET_LIMIT, limits)
+    let (steps, targets) = (table.len() / limits.len(), limits.len());
+    uncoupled(Sizes { steps, targets, ..sample().sizes }).with(TARGET_GAIN, table).with(TARGET_LIMIT, limits)
 }
 
 /// S with a target: its table −8 counts, its limit 7.
@@ -330,6 +341,222 @@ fn target_lines() -> Vec<Case> {
         sheet("the target limit before its table", &[without(2), line(8), line(7)], 2),
         sheet("the targets before the state limit", &[without(3), line(7), line(8), line(6)], 2),
     ]
+}
+
+/// S with a motor, or more, and the limits of each command.
+fn with_steps(motors: usize, limits: &[(i64, i64)]) -> Draft {
+    let (lows, highs): (Vec<i64>, Vec<i64>) = limits.iter().copied().unzip();
+    uncoupled(Sizes { motors, steps: limits.len() / motors, ..sample().sizes }).with(LOW, &lows).with(HIGH, &highs)
+}
+
+/// The limits of four commands.
+const FOUR: [(i64, i64); 4] = [(-20, 20), (-4, 2), (-2, 3), (-20, 1)];
+
+/// Two motors and two steps: the first step's limits, then the second's.
+pub fn motors_and_steps() -> Draft {
+    with_steps(2, &FOUR)
+}
+
+/// H (8,4),(4,8) and β 8: the steps have a part in each other.
+fn coupled(limits: [(i64, i64); 2]) -> Draft {
+    with_steps(1, &limits).with(COST, &[8, 4, 4, 8]).with(MOMENTUM, &[8])
+}
+
+/// Request 3, accepted. Where nothing else is said a sweep makes z into half of z, rounded, less h = 10, and e into half
+/// of e + 1, rounded up, plus c = n, as above.
+fn held_by_steps() -> Vec<Case> {
+    // −10; −5 − 10; −7.5 is −8, −8 − 10. At step 1 −10, −2.5 is −3, −3 − 10, and the same again, all held.
+    let rows: [&[i64]; 3] = [&[-10, -5, 2, 2], &[-15, -5, 4, 4], &[-18, -5, 5, 5]];
+    let mut table = runs("the second step eases off", &with_steps(1, &[(-20, 20), (-5, 5)]), &[10], &rows);
+    let rows: [&[i64]; 3] = [&[-5, -10, 2, 2], &[-5, -15, 4, 4], &[-5, -18, 5, 5]];
+    table.extend(runs("the first step is held", &with_steps(1, &[(-5, 5), (-20, 20)]), &[10], &rows));
+    // w is 3 at step 1: half of 3 is 2, 2 + 2 is 4 or 3; half of 5 is 3, 3 + 2, and half of 4 + 2 is 3 again.
+    let rows: [&[i64]; 3] = [&[-10, -1, 2, 2], &[-15, -1, 4, 3], &[-18, -1, 5, 3]];
+    table.extend(runs("w holds the second step", &with_steps(1, &[(-20, 20), (-1, 2)]), &[10], &rows));
+    // h = −10: 10; 5 + 10; 7.5 is 7, 7 + 10.
+    let rows: [&[i64]; 3] = [&[2, 10, 2, 2], &[2, 15, 3, 4], &[2, 17, 3, 5]];
+    table.extend(runs("w holds the first step", &with_steps(1, &[(-1, 2), (-20, 20)]), &[-10], &rows));
+    // c is 3 and the last w 2: half of 4 + 3, half of 6 + 3. At step 1 −4 − 10 is held.
+    let rows: [&[i64]; 3] = [&[-10, -8, -1, 3, 3, 2], &[-15, -8, -1, 5, 5, 2], &[-18, -8, -1, 6, 6, 2]];
+    let narrowing = with_steps(1, &[(-20, 20), (-8, 8), (-1, 1)]);
+    table.extend(runs("three steps, narrowing", &narrowing, &[10], &rows));
+    let rows: [&[i64]; 3] = [&[-1, -8, -10, 2, 3, 3], &[-1, -8, -15, 2, 5, 5], &[-1, -8, -18, 2, 6, 6]];
+    let widening = with_steps(1, &[(-1, 1), (-8, 8), (-20, 20)]);
+    table.extend(runs("three steps, widening", &widening, &[10], &rows));
+    // A point has w 0, and is its own cold start.
+    let rows: [&[i64]; 3] = [&[-10, 7, -10, 3, 0, 3], &[-15, 7, -15, 5, 0, 5], &[-18, 7, -18, 6, 0, 6]];
+    let point = with_steps(1, &[(-20, 20), (7, 7), (-20, 20)]);
+    table.extend(runs("a point between two steps", &point, &[10], &rows));
+    // c is 4 and w 40, 6, 5, 21: half of 5 is 3, 3 + 4, or w; half of 8 + 4, and 4 + 4 and 3 + 4 after 6 and 5, or w.
+    let rows: [&[i64]; 3] =
+        [&[-10, -4, -2, -10, 4, 4, 4, 4], &[-15, -4, -2, -15, 7, 6, 5, 7], &[-18, -4, -2, -18, 8, 6, 5, 8]];
+    table.extend(runs("two motors, two steps", &motors_and_steps(), &[10], &rows));
+    let rows: [&[i64]; 3] = [&[10, 2, 3, 1, 4, 4, 4, 4], &[15, 2, 3, 1, 7, 6, 5, 7], &[17, 2, 3, 1, 8, 6, 5, 8]];
+    table.extend(runs("two motors, two steps, upward", &motors_and_steps(), &[-10], &rows));
+    // Limits are those of the command, whichever motor and step it belongs to.
+    let answer = || Answer(rows[2].to_vec());
+    table.push(case("four steps of one motor", &with_steps(1, &FOUR), &[-10], answer()));
+    table.push(case("one step of four motors", &with_steps(4, &FOUR), &[-10], answer()));
+    table.extend(coupled_steps());
+    let (eased, held) = (with_steps(1, &[(-20, 20), (-5, 5)]), with_steps(1, &[(-5, 5), (-20, 20)]));
+    let apart = [(-20, -10), (10, 20)];
+    table.extend([
+        // Half of −20 is −10, −10 − 10.
+        case("a start at its limits", &eased.iterations(1), &[10], Answer(vec![-20, -5, 2, 2])).start(&[-20, -5]),
+        case("a start at its limits", &held.iterations(1), &[10], Answer(vec![-5, -20, 2, 2])).start(&[5, -20]),
+        case("the second step above the first", &with_steps(1, &apart), &[10], Accepted),
+        case("the second step below the first", &with_steps(1, &[apart[1], apart[0]]), &[10], Accepted),
+    ]);
+    table
+}
+
+/// M is (8,−4),(−4,8). c is 2.
+fn coupled_steps() -> Vec<Case> {
+    // h = 10. y = (−15, −3): −8 + 0 − 10 (−7.5, 0.75); 3 − 2 − 10 (3.75, −1.5), held. y = (−27 + 5, −3 + 1):
+    // −11 + 0 − 10 (0.5), held; 5 − 1 − 10 (5.5), held. q: 2 + 1 + 1, 5 + 4 + 1 (3.5); e: 12 × 4 / 16 + 2, then
+    // 12 × 10 / 16 = 7.5 is 8, 8 + 2, and at step 1 w = 7.
+    let rows: [&[i64]; 3] = [&[-10, -2, 2, 2], &[-18, -2, 5, 5], &[-20, -2, 10, 7]];
+    let mut table = runs("coupled steps", &coupled([(-20, 20), (-2, 5)]), &[10], &rows);
+    // h = 0, from the cold start (0, 8): 0 − 2; 0 + 4, held. y = (−3, 12 − 4): −2 − 2 (−1.5); 0 + 4 (0.75), held.
+    // y = (−6 + 1, 8): −3 − 2 (−2.5); 1 + 4 (1.25), held. w is 4 at step 1. q: 4, 4; 5 + 4 + 1 (3.5), 4 + 3 + 1; e:
+    // 3 + 2; (80 + 32) / 16 + 2, and (40 + 64) / 16 = 6.5 is 7, 7 + 2, held by w.
+    let rows: [&[i64]; 3] = [&[-2, 8, 2, 2], &[-4, 8, 5, 4], &[-5, 8, 9, 4]];
+    table.extend(runs("zero outside the second step", &coupled([(-20, 20), (8, 12)]), &[0], &rows));
+    let rows: [&[i64]; 3] = [&[8, -2, 2, 2], &[8, -4, 4, 5], &[8, -5, 4, 9]];
+    table.extend(runs("zero outside the first step", &coupled([(8, 12), (-20, 20)]), &[0], &rows));
+    table
+}
+
+/// Request 3: 5, 6, 7, 12 and 14 because of a single step.
+fn refused_steps() -> Vec<Case> {
+    let wide = (-20, 20);
+    let of = |name: &str, limits: &[(i64, i64)], expect| case(name, &with_steps(1, limits), &[10], expect);
+    let former = |name: &str, draft: Draft| {
+        let image = Some(bytes(&draft.former_words()));
+        Case { image, ..case(name, &draft, &[10], Refused(6)) }
+    };
+    vec![
+        of("the second step's limits cross", &[wide, (6, 5)], Refused(7)),
+        of("the first step's limits cross", &[(6, 5), wide], Refused(7)),
+        of("the middle step's limits cross", &[wide, (6, 5), wide], Refused(7)),
+        of("the last low beyond the word", &[wide, wide, (-128, 20)], Refused(5)),
+        of("the last high beyond the word", &[wide, wide, (-20, 128)], Refused(5)),
+        of("5 at the last step before 7 at the first", &[(6, 5), (-20, 128)], Refused(5)),
+        of("a start within the first step's limits", &[wide, (-5, 5)], Refused(14)).start(&[0, -6]),
+        of("a start within the last step's limits", &[(-5, 5), wide], Refused(14)).start(&[6, 0]),
+        case("a start within the other motor's", &motors_and_steps(), &[10], Refused(14)).start(&[0, 0, -4, 0]),
+        former("the former image of two steps", with_steps(1, &[wide, wide])),
+        former("the former image of two motors and two steps", motors_and_steps()),
+    ]
+}
+
+/// Request 3: the headroom of one step, be it the first or the last. β is 8.
+fn headroom_of_steps() -> Vec<Case> {
+    let wide = (-20, 20);
+    let either = |name: &str, limits: (i64, i64), expect: Expect| {
+        [[limits, wide], [wide, limits]].map(|limits| {
+            let draft = with_steps(1, &limits).with(MOMENTUM, &[8]);
+            case(name, &draft, &[10], expect.clone())
+        })
+    };
+    // Y is 63 + 63 and 20 + 20. In the row of the other step A is 4 × 126 / 16, rounded up to 32, and 8 × 40 / 16 = 20,
+    // which leaves 75 for B, of that row alone.
+    let row = |limit: i64, expect: Expect| {
+        [([(-63, 63), wide], [0, 16]), ([wide, (-63, 63)], [16, 0])].map(|(limits, gains)| {
+            let draft = coupled(limits).with(GAIN, &gains).with(STATE_LIMIT, &[limit]);
+            case(&format!("a row of the other step, state limit {limit}"), &draft, &[10], expect.clone())
+        })
+    };
+    let cases = [
+        // zb: P = 84 + 42 = 126, and 85 + 43 = 128 (42.5). w is 0.
+        either("a point of 84", (84, 84), Accepted),
+        either("a point of 85", (85, 85), Refused(12)),
+        // w: Y = 64 + 8 × 126 / 16 = 127, and 64 + 63.5, rounded up. P is 96.
+        either("limits -62 and 64", (-62, 64), Accepted),
+        either("limits -63 and 64", (-63, 64), Refused(12)),
+        row(75, Accepted),
+        row(76, Refused(12)),
+    ];
+    cases.into_iter().flatten().collect()
+}
+
+/// The sheet of the page of motors and steps: line 01, 16 and 4 lines of tables, then four lows, four highs, β and the
+/// state limit.
+fn motors_and_steps_text() -> Vec<u8> {
+    page_case("", FIRST_OF_MOTORS_AND_STEPS, PAGE_OF_MOTORS_AND_STEPS).sheet
+}
+
+/// The lines of its limits in another order, lows 0 to 3 and highs 4 to 7, and places exchanged for others.
+fn other_limit_lines(order: &[usize], places: &[(&str, &str)]) -> Vec<u8> {
+    let text = motors_and_steps_text();
+    let line = |i: usize| str::from_utf8(&text[i * LINE..(i + 1) * LINE]).unwrap();
+    let limit = |&i: &usize| {
+        let place = &line(21 + i)[..6];
+        let other = places.iter().find(|(old, _)| *old == place).map_or(place, |(_, new)| new);
+        other.to_string() + &line(21 + i)[6..]
+    };
+    let limits: String = order.iter().map(limit).collect();
+    [&text[..21 * LINE], limits.as_bytes(), &text[29 * LINE..]].concat()
+}
+
+/// Request 3's lines: their words, their rounding and their order.
+fn step_lines() -> Vec<Case> {
+    let draft = motors_and_steps();
+    let page =
+        |expect| Case { expect, ..page_case("motors and steps", FIRST_OF_MOTORS_AND_STEPS, PAGE_OF_MOTORS_AND_STEPS) };
+    let tables = [8, 0, 0, 0, 0, 8, 0, 0, 0, 0, 8, 0, 0, 0, 0, 8, 16, 16, 16, 16];
+    let image = [&[2, 2, 1, 4, 8, 3, 0, 0], &tables[..], &[-20, -4, -2, -20, 20, 2, 3, 1, 0, 10]].concat();
+    let sheet = |name: &str, text: Vec<u8>, number| sheet_case(name, &draft, text, Refused(number));
+    let order = |name: &str, order: &[usize]| sheet(name, other_limit_lines(order, &[]), 2);
+    let in_order = [0, 1, 2, 3, 4, 5, 6, 7];
+    let places = |name: &str, places: &[(&str, &str)]| sheet(name, other_limit_lines(&in_order, places), 2);
+    let text = motors_and_steps_text();
+    let until = |lines: usize| text[..lines * LINE].to_vec();
+    let no_number = "0400017FF8000000000000\n";
+    vec![
+        page(Image(image)),
+        Case { state: bytes(&[10]), ..page(Answer(vec![-18, -4, -2, -18, 8, 6, 5, 8])) },
+        order("the former layout", &[0, 1, 4, 5]),
+        order("motors outermost", &[0, 2, 1, 3, 4, 6, 5, 7]),
+        order("lows with motors outermost", &[0, 2, 1, 3, 4, 5, 6, 7]),
+        order("highs with motors outermost", &[0, 1, 2, 3, 4, 6, 5, 7]),
+        order("a step's limits together", &[0, 1, 4, 5, 2, 3, 6, 7]),
+        order("a command's limits together", &[0, 4, 1, 5, 2, 6, 3, 7]),
+        order("a high before the last low", &[0, 1, 2, 4, 3, 5, 6, 7]),
+        order("a low behind the highs", &[0, 1, 2, 4, 5, 6, 7, 3]),
+        order("highs first", &[4, 5, 6, 7, 0, 1, 2, 3]),
+        order("the last step first", &[2, 3, 0, 1, 6, 7, 4, 5]),
+        order("no last low", &[0, 1, 2, 4, 5, 6, 7]),
+        order("no last high", &[0, 1, 2, 3, 4, 5, 6]),
+        order("the last low twice", &[0, 1, 2, 3, 3, 4, 5, 6, 7]),
+        order("the last high twice", &[0, 1, 2, 3, 4, 5, 6, 7, 7]),
+        places("the column left 0", &[("040001", "040000"), ("040101", "040100")]),
+        places("the highs' column left 0", &[("050001", "050000"), ("050101", "050100")]),
+        places("a step N", &[("040101", "040102")]),
+        places("a high of step N", &[("050101", "050102")]),
+        places("row and column exchanged", &[("040100", "040001"), ("040001", "040100")]),
+        places("the highs' row and column exchanged", &[("050100", "050001"), ("050001", "050100")]),
+        places("the command as row", &[("040001", "040200"), ("040101", "040300")]),
+        sheet("no line behind the first step's lows", until(23), 4),
+        sheet("no line behind the lows", until(25), 4),
+        sheet("the last low cut", text[..25 * LINE - 1].to_vec(), 1),
+        sheet("a late low that is no number, and no more", [&until(23), no_number.as_bytes()].concat(), 5),
+        sheet(
+            "a late low that is no number before a wrong line",
+            [&until(23), no_number.as_bytes(), &until(1)].concat(),
+            5,
+        ),
+        former_of("the former layout of two steps", &with_steps(1, &[(-20, 20); 2])),
+        former_of("the former layout of sixteen steps", &with_steps(1, &[(-20, 20); 16])),
+        former_of("the former layout of four motors, four steps", &with_steps(4, &[(-20, 20); 16])),
+    ]
+}
+
+/// The draft's sheet before request 3.
+fn former_of(name: &str, draft: &Draft) -> Case {
+    let mut frames = draft.frames(|i| of_count(draft.body[i], draft.sizes.bits));
+    keep_former(&mut frames);
+    sheet_case(name, draft, text(&frames), Refused(2))
 }
 
 /// A sheet by its line 01 and its page, which says what was given.
@@ -460,7 +687,9 @@ const PAGE_OF_TWO_TARGETS: &str = "\
 03 0000 3FF0000000000000 3FF0000000000000 K
 03 0100 3FF0000000000000 3FF0000000000000 K
 04 0000 BFF4000000000000 BFF4000000000000 K
+04 0001 BFF4000000000000 BFF4000000000000 K
 05 0000 3FF4000000000000 3FF4000000000000 K
+05 0001 3FF4000000000000 3FF4000000000000 K
 06 0000 0000000000000000 0000000000000000 K
 07 0000 3FE4000000000000 3FE4000000000000 K
 08 0000 3FF0000000000000 3FF0000000000000 K
@@ -469,6 +698,66 @@ const PAGE_OF_TWO_TARGETS: &str = "\
 08 0101 8000000000000000 0000000000000000 K
 09 0000 3FC8000000000000 3FC8000000000000 K
 09 0100 3FC4000000000000 3FC8000000000000 M
+";
+
+const FIRST_OF_MOTORS_AND_STEPS: &str = "0102020104080000030000";
+
+/// Two motors and two steps: all limits but the first motor's first are moved by half a count, inward.
+const PAGE_OF_MOTORS_AND_STEPS: &str = "\
+02 0000 3FE0000000000000 3FE0000000000000 K
+02 0001 0000000000000000 0000000000000000 K
+02 0002 0000000000000000 0000000000000000 K
+02 0003 0000000000000000 0000000000000000 K
+02 0100 0000000000000000 0000000000000000 K
+02 0101 3FE0000000000000 3FE0000000000000 K
+02 0102 0000000000000000 0000000000000000 K
+02 0103 0000000000000000 0000000000000000 K
+02 0200 0000000000000000 0000000000000000 K
+02 0201 0000000000000000 0000000000000000 K
+02 0202 3FE0000000000000 3FE0000000000000 K
+02 0203 0000000000000000 0000000000000000 K
+02 0300 0000000000000000 0000000000000000 K
+02 0301 0000000000000000 0000000000000000 K
+02 0302 0000000000000000 0000000000000000 K
+02 0303 3FE0000000000000 3FE0000000000000 K
+03 0000 3FF0000000000000 3FF0000000000000 K
+03 0100 3FF0000000000000 3FF0000000000000 K
+03 0200 3FF0000000000000 3FF0000000000000 K
+03 0300 3FF0000000000000 3FF0000000000000 K
+04 0000 BFF4000000000000 BFF4000000000000 K
+04 0100 BFD2000000000000 BFD0000000000000 M
+04 0001 BFC4000000000000 BFC0000000000000 M
+04 0101 BFF4800000000000 BFF4000000000000 M
+05 0000 3FF4000000000000 3FF4000000000000 K
+05 0100 3FC4000000000000 3FC0000000000000 M
+05 0001 3FCC000000000000 3FC8000000000000 M
+05 0101 3FB8000000000000 3FB0000000000000 M
+06 0000 0000000000000000 0000000000000000 K
+07 0000 3FE4000000000000 3FE4000000000000 K
+";
+
+/// Three steps: half a count as low of the second and as high of the third, minus zero as high of the first.
+const PAGE_OF_THREE_STEPS: &str = "\
+02 0000 3FE0000000000000 3FE0000000000000 K
+02 0001 0000000000000000 0000000000000000 K
+02 0002 0000000000000000 0000000000000000 K
+02 0100 0000000000000000 0000000000000000 K
+02 0101 3FE0000000000000 3FE0000000000000 K
+02 0102 0000000000000000 0000000000000000 K
+02 0200 0000000000000000 0000000000000000 K
+02 0201 0000000000000000 0000000000000000 K
+02 0202 3FE0000000000000 3FE0000000000000 K
+03 0000 3FF0000000000000 3FF0000000000000 K
+03 0100 3FF0000000000000 3FF0000000000000 K
+03 0200 3FF0000000000000 3FF0000000000000 K
+04 0000 BFF4000000000000 BFF4000000000000 K
+04 0001 3FA0000000000000 3FB0000000000000 M
+04 0002 BFA0000000000000 0000000000000000 M
+05 0000 8000000000000000 0000000000000000 K
+05 0001 3FF4000000000000 3FF4000000000000 K
+05 0002 3FA0000000000000 0000000000000000 M
+06 0000 0000000000000000 0000000000000000 K
+07 0000 3FE4000000000000 3FE4000000000000 K
 ";
 
 /// The widest word, b 20: just below 2 counts in Φ, and limits that the last bit keeps from 2^31 counts.
@@ -481,20 +770,22 @@ const PAGE_OF_WIDE_WORD: &str = "\
 07 0000 409FFFFFFFC00000 409FFFFFFFC00000 K
 ";
 
-/// Four motors, four steps, twelve states and four targets: H is 16 on the diagonal, all else is half a count or zero.
-fn largest_page() -> String {
+/// Sixteen commands, twelve states and four targets: H is 16 on the diagonal, all else is half a count or zero.
+fn largest_page(motors: usize, steps: usize) -> String {
     let mut page = String::new();
-    let mut table = |kind: &str, rows: usize, columns: usize, doubles: &str| {
-        for (i, j) in (0..rows).flat_map(|i| (0..columns).map(move |j| (i, j))) {
+    let mut table = |kind: &str, outer: usize, inner: usize, doubles: &str| {
+        for (i, j) in (0..outer).flat_map(|i| (0..inner).map(move |j| (i, j))) {
             let one = kind == "02" && i == j;
             let doubles = if one { "3FF0000000000000 3FF0000000000000 K" } else { doubles };
-            page += &format!("{kind} {i:02X}{j:02X} {doubles}\n");
+            // Of limits the steps are outermost.
+            let (row, column) = if matches!(kind, "04" | "05") { (j, i) } else { (i, j) };
+            page += &format!("{kind} {row:02X}{column:02X} {doubles}\n");
         }
     };
     table("02", 16, 16, "8000000000000000 0000000000000000 K");
     table("03", 16, 12, "3FA0000000000000 0000000000000000 M");
-    table("04", 4, 1, "BFA0000000000000 0000000000000000 M");
-    table("05", 4, 1, "3FA0000000000000 0000000000000000 M");
+    table("04", steps, motors, "BFA0000000000000 0000000000000000 M");
+    table("05", steps, motors, "3FA0000000000000 0000000000000000 M");
     table("06", 1, 1, "0000000000000000 0000000000000000 K");
     table("07", 12, 1, "3FA0000000000000 3FB0000000000000 M");
     table("08", 16, 4, "BFA0000000000000 BFB0000000000000 M");
@@ -507,7 +798,10 @@ fn other_pages() -> Vec<Case> {
         page_case("the page of two motors", "0102010104080000030000", PAGE_OF_TWO_MOTORS),
         page_case("the page of two targets", "0101020104080200030000", PAGE_OF_TWO_TARGETS),
         page_case("the page of the widest word", "0101010114200000030000", PAGE_OF_WIDE_WORD),
-        page_case("the largest page", "0104040C04080400030000", &largest_page()),
+        page_case("the page of motors and steps", FIRST_OF_MOTORS_AND_STEPS, PAGE_OF_MOTORS_AND_STEPS),
+        page_case("the page of three steps", "0101030104080000030000", PAGE_OF_THREE_STEPS),
+        page_case("the largest page", "0104040C04080400030000", &largest_page(4, 4)),
+        page_case("the largest page of one motor", "0101100C04080400030000", &largest_page(1, 16)),
     ]
 }
 
@@ -539,7 +833,7 @@ pub fn page_table() -> Table {
         }
     }
     let s = |old: &str, new: &str| SAMPLE.replacen(old, new, 1).into_bytes();
-    let refused: [(Vec<u8>, Number); 21] = [
+    let refused: [(Vec<u8>, Number); 25] = [
         (vec![], 4),
         (b"\n".to_vec(), 1),
         ([SAMPLE, "\n"].concat().into_bytes(), 4),
@@ -551,11 +845,15 @@ pub fn page_table() -> Table {
         (PAGE_OF_SAMPLE.as_bytes().to_vec(), 1),
         (SAMPLE.as_bytes()[LINE..].to_vec(), 2),
         (s("0300003FF", "0300013FF"), 2),
+        (other_limit_lines(&[0, 1, 4, 5], &[]), 2),
+        (other_limit_lines(&[0, 2, 1, 3, 4, 6, 5, 7], &[]), 2),
+        (other_limit_lines(&[0, 1, 4, 5, 2, 3, 6, 7], &[]), 2),
         (s("0408000003", "0408050003"), 3),
         (SAMPLE.as_bytes()[..6 * LINE].to_vec(), 4),
         (s("0300003FF", "0300007FF"), 5),
         (s("0700003FE", "070000BFE"), 5),
         (s("0500003FF4", "050000BFF8"), 7),
+        (with_steps(1, &[(-20, 20), (6, 5)]).sheet(), 7),
         (two_steps(8, 0).with(COST, &[8, 1, 0, 8]).sheet(), 8),
         (two_steps(8, 8).sheet(), 9),
         (two_steps(9, 8).sheet(), 10),
@@ -579,6 +877,8 @@ pub fn label_table() -> Table {
     let without_headroom = String::from_utf8(with_limits(117, 1).sheet()).unwrap();
     let both = |state, target| folder(&with_target, state, Some(target));
     let of = |target| both("0000000A\n", target);
+    let motors_and_steps = String::from_utf8(motors_and_steps_text()).unwrap();
+    let former = String::from_utf8(other_limit_lines(&[0, 1, 4, 5], &[])).unwrap();
     let (answer_of_s, refused) = ("FFFFFFEE 00000003\n", "refused 16\n");
     let table = [
         (s(None), answer_of_s),
@@ -606,6 +906,13 @@ pub fn label_table() -> Table {
         (both("0000000A00000007\n", "\n"), "refused 13\n"),
         (folder("", "0000000A\n", Some("00000007\n")), "refused 04\n"),
         (folder(&without_headroom, "0000000B\n", None), "refused 12\n"),
+        // The case "two motors, two steps, sweeps 3".
+        (
+            folder(&motors_and_steps, "0000000A\n", None),
+            "FFFFFFEE 00000008\nFFFFFFFC 00000006\nFFFFFFFE 00000005\nFFFFFFEE 00000008\n",
+        ),
+        (folder(&former, "0000000A\n", None), "refused 02\n"),
+        (folder(&former, "", None), "refused 02\n"),
     ];
     table.map(|(folder, text)| (folder, text.to_string())).to_vec()
 }
@@ -625,7 +932,7 @@ pub fn run(harness: &mut Harness, case: &Case) {
         number => page_numbers == (number, number),
     };
     let holds = match &case.expect {
-        Refused(number @ 13..) => (intake.number, solve_number) == (0, *number),
+        Refused(number @ (6 | 13..)) => (intake.number, solve_number) == (0, *number),
         Refused(number) => (intake.number, solve_number) == (*number, *number),
         Accepted => (intake.number, solve_number) == (0, 0),
         Answer(row) => solve.is_some_and(|solve| solve.written == Some(bytes(row))),
@@ -634,6 +941,7 @@ pub fn run(harness: &mut Harness, case: &Case) {
             let sizes = image.get(..HEADER_WORDS).and_then(Sizes::of_words);
             sizes.is_some_and(|sizes| image[HEADER_WORDS + sizes.extent(*kind).0..].starts_with(row))
         }
+        Image(words) => intake.written.is_some_and(|image| image == bytes(words)),
         Page(text) => page.written.is_some_and(|page| page == text.as_bytes()),
         NoPage(lengths) => lengths.iter().all(|&length| page_of(harness, case, length).number == 15),
     };

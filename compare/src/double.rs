@@ -56,7 +56,7 @@ pub fn to_word(double: u64, bits: u32, width: u32, rounding: Rounding) -> Option
     (-limit..=limit).contains(&word).then_some(word as i64)
 }
 
-/// A motor's pair of limits, rounded inward.
+/// A command's pair of limits, rounded inward.
 pub fn inward(low: u64, high: u64, bits: u32, width: u32) -> Option<(i64, i64)> {
     Some((to_word(low, bits, width, Rounding::Up)?, to_word(high, bits, width, Rounding::Down)?))
 }

@@ -1,7 +1,7 @@
 //! A problem in the making: sizes and body words, written as an image or a sheet.
 
 use crate::double::of_count;
-use crate::image::{Problem, Sizes, bytes};
+use crate::image::{HIGH, LOW, Problem, Sizes, bytes};
 use crate::rules::Rules;
 use crate::sheet::{Frame, hex};
 
@@ -16,7 +16,7 @@ impl Draft {
         Draft { sizes, body: vec![0; sizes.body_words()] }
     }
 
-    /// The entries of a section, rows outermost.
+    /// The entries of a section in sheet order.
     pub fn section(&mut self, kind: u8) -> &mut [i64] {
         let (start, length) = self.sizes.extent(kind);
         &mut self.body[start..start + length]
@@ -42,6 +42,13 @@ impl Draft {
         [&self.sizes.words(), &self.body[..]].concat()
     }
 
+    /// The image's words before request 3: the first step's limits stand for every step's.
+    pub fn former_words(&self) -> Vec<i64> {
+        let body = self.sizes.places().zip(&self.body);
+        let kept = body.filter(|((section, _, column), _)| is_former(section.kind, *column)).map(|(_, &word)| word);
+        self.sizes.words().into_iter().chain(kept).collect()
+    }
+
     pub fn image(&self) -> Vec<u8> {
         bytes(&self.words())
     }
@@ -64,6 +71,16 @@ impl Draft {
     pub fn sheet(&self) -> Vec<u8> {
         text(&self.frames(|i| of_count(self.body[i], self.sizes.bits)))
     }
+}
+
+/// Was there such a line and such a word before request 3? Limits had column 0 alone.
+fn is_former(kind: u8, column: usize) -> bool {
+    !matches!(kind, LOW | HIGH) || column == 0
+}
+
+/// Leaves the lines of the layout before request 3, with the first step's limits.
+pub fn keep_former(frames: &mut Vec<Frame>) {
+    frames.retain(|&[kind, _, column, ..]| is_former(kind, column.into()));
 }
 
 pub fn text(frames: &[Frame]) -> Vec<u8> {

@@ -1,20 +1,21 @@
-//! The false economies and lazy drives of document 01, and those of requests 1 and 2. Each must be found on the table of
+//! The false economies and lazy drives of document 01, and those of requests 1 to 3. Each must be found on the table of
 //! cases: a comparison that cannot fail is worthless.
 
 use crate::cases;
 use crate::double::{Rounding, of_count};
 use crate::drive::{Drive, Kind, Reference};
+use crate::former::Former;
 use crate::harness::Harness;
-use crate::image::{HEADER_WORDS, HIGH, LOW, Number, Sizes, TARGET_GAIN, bytes, open, words};
+use crate::image::{HEADER_WORDS, HIGH, LOW, Number, Problem, Sizes, TARGET_GAIN, bytes, open, words};
 use crate::page::{self, GIVEN, KEPT, MARK, PAGE_LINE, PLACE};
-use crate::rules::Rules;
+use crate::rules::{Other, Rules, Use};
 use crate::sheet::{self, LINE, hex};
 
 /// What a lazy drive makes of the reference's outcome.
 type Spoil = Box<dyn Fn(Kind, &[&[u8]], Number, &mut [u8]) -> Number>;
 
 struct Economy {
-    name: &'static str,
+    name: String,
     rules: Rules,
     spoil: Spoil,
 }
@@ -26,12 +27,12 @@ impl Drive for Economy {
     }
 }
 
-fn rule(name: &'static str, rules: Rules) -> Economy {
-    Economy { name, rules, spoil: Box::new(|_, _, number, _| number) }
+fn rule(name: &str, rules: Rules) -> Economy {
+    Economy { name: name.to_string(), rules, spoil: Box::new(|_, _, number, _| number) }
 }
 
-fn lazy(name: &'static str, spoil: impl Fn(Kind, &[&[u8]], Number, &mut [u8]) -> Number + 'static) -> Economy {
-    Economy { name, rules: Rules::default(), spoil: Box::new(spoil) }
+fn lazy(name: &str, spoil: impl Fn(Kind, &[&[u8]], Number, &mut [u8]) -> Number + 'static) -> Economy {
+    Economy { name: name.to_string(), rules: Rules::default(), spoil: Box::new(spoil) }
 }
 
 /// A drive that answers on its own where a solve has one of these numbers.
@@ -40,6 +41,16 @@ fn lazy_solve(name: &'static str, at: &'static [Number], answer: fn(&[&[u8]], &m
         name,
         move |kind, inputs, number, out| {
             if kind == Kind::Solve && at.contains(&number) { answer(inputs, out) } else { number }
+        },
+    )
+}
+
+/// A drive that answers on its own where an intake has one of these numbers.
+fn lazy_intake(name: &str, at: &'static [Number], answer: impl Fn(&[u8], &mut [u8]) -> Number + 'static) -> Economy {
+    lazy(
+        name,
+        move |kind, inputs, number, out| {
+            if kind == Kind::Intake && at.contains(&number) { answer(inputs[0], out) } else { number }
         },
     )
 }
@@ -72,6 +83,8 @@ fn no_page(name: &'static str, at: &'static [Number], answer: fn(&[u8], Number, 
 fn economies() -> Vec<Economy> {
     let mut economies = of_document_01();
     economies.extend(with_targets());
+    economies.extend(with_other_limits());
+    economies.extend(with_other_sheets());
     economies.extend(on_pages());
     economies.extend(without_pages());
     economies
@@ -146,6 +159,77 @@ fn with_targets() -> Vec<Economy> {
     ]
 }
 
+fn first_step(command: usize, sizes: &Sizes) -> usize {
+    command % sizes.motors
+}
+
+fn last_step(command: usize, sizes: &Sizes) -> usize {
+    sizes.commands() - sizes.motors + command % sizes.motors
+}
+
+fn motors_outermost(command: usize, sizes: &Sizes) -> usize {
+    command % sizes.motors * sizes.steps + command / sizes.motors
+}
+
+/// Request 3's, on the limits that a command has.
+fn with_other_limits() -> Vec<Economy> {
+    const EVERYWHERE: &[Use] =
+        &[Use::Crossing, Use::Magnitude, Use::Spread, Use::Start, Use::ColdStart, Use::Sweep, Use::Bound];
+    let places: [(&str, &'static [Use]); 9] = [
+        ("in 7", &[Use::Crossing]),
+        ("in zb", &[Use::Magnitude]),
+        ("in the w of Y", &[Use::Spread]),
+        ("in the headroom", &[Use::Magnitude, Use::Spread]),
+        ("in 14", &[Use::Start]),
+        ("in the cold start", &[Use::ColdStart]),
+        ("in the sweep", &[Use::Sweep]),
+        ("in the w of a bound", &[Use::Bound]),
+        ("everywhere", EVERYWHERE),
+    ];
+    let with =
+        |name: &str, uses, other: Other| rule(name, Rules { other_limits: Some((uses, other)), ..Rules::default() });
+    let mut economies = vec![with("reads the image with motors outermost", EVERYWHERE, motors_outermost)];
+    for (place, uses) in places {
+        economies.push(with(&format!("takes the first step's limits {place}"), uses, first_step));
+        economies.push(with(&format!("takes the last step's limits {place}"), uses, last_step));
+    }
+    economies
+}
+
+/// Request 3's, on the sheets that are taken and on the images written of them.
+fn with_other_sheets() -> Vec<Economy> {
+    const FROM_TABLES: &[Number] = &[0, 7, 8, 9, 10, 11, 12, 15];
+    let written = |name: &str, kinds: &'static [u8], other: Other| {
+        lazy_intake(name, FROM_TABLES, move |sheet, out| intake_of_others(sheet, kinds, other, out))
+    };
+    vec![
+        written("writes the image with motors outermost", &[LOW, HIGH], motors_outermost),
+        written("writes the first step's limits for every step", &[LOW, HIGH], first_step),
+        written("writes the last step's limits for every step", &[LOW, HIGH], last_step),
+        written("keeps a low for each motor until the highs come", &[LOW], last_step),
+        written("keeps a high for each motor", &[HIGH], last_step),
+        lazy_intake("takes the former layout too", &[2], |sheet, out| match Former::read(sheet) {
+            Ok((former, _)) => write(&bytes(&former.words), out),
+            Err(_) => 2,
+        }),
+        lazy_intake("takes the lines of limits in any order", &[2], |sheet, out| {
+            let key = |line: &Vec<u8>| [0..2, 4..6, 2..4].map(|part| line.get(part).map(<[u8]>::to_vec));
+            intake(&with_limit_lines(sheet, |lines| lines.sort_by_key(key)), out)
+        }),
+        lazy_intake("does not heed the column of a limit", &[2], |sheet, out| {
+            let motors = (number_of(&sheet[2..4]) as usize).max(1);
+            let changed = with_limit_lines(sheet, |lines| {
+                let commands = (lines.len() / 2).max(1);
+                for (i, line) in lines.iter_mut().enumerate() {
+                    line.splice(4..6, format!("{:02X}", i % commands / motors).into_bytes());
+                }
+            });
+            intake(&changed, out)
+        }),
+        lazy_solve("takes the former image too", &[6], solve_former),
+    ]
+}
+
 const ZERO: &[u8] = b"0000000000000000";
 const MINUS_ZERO: &[u8] = b"8000000000000000";
 
@@ -194,7 +278,18 @@ fn on_pages() -> Vec<Economy> {
         }),
         lazy_lines("prints small letters", |line| line[..MARK].make_ascii_lowercase()),
         lazy_page("rounds the kept double the other way", round_otherwise),
-        lazy_page("prints a motor's limits together", limits_together),
+        lazy_page("prints a command's limits together", limits_together),
+        lazy_lines("prints column 0 for every step", |line| {
+            if is_limit(line) {
+                line[PLACE][2..].fill(b'0');
+            }
+        }),
+        lazy_lines("prints a limit's step before its motor", |line| {
+            if is_limit(line) {
+                line[PLACE].rotate_left(2);
+            }
+        }),
+        lazy_page("prints the limits with motors outermost", limits_by_motors),
         lazy_page("prints line 01 in the place of the last", |sheet, page| {
             page.rotate_right(PAGE_LINE);
             page[..PAGE_LINE].copy_from_slice(&first_line(sheet));
@@ -206,12 +301,7 @@ fn on_pages() -> Vec<Economy> {
 fn without_pages() -> Vec<Economy> {
     vec![
         no_page("prints line 01 too", &[0, 15], |sheet, _, out| {
-            let page = [first_line(sheet), page_of(sheet)].concat();
-            if out.len() != page.len() {
-                return 15;
-            }
-            out.copy_from_slice(&page);
-            0
+            write(&[first_line(sheet), page_of(sheet)].concat(), out)
         }),
         no_page("tests the page's length before 12", &[12], length_before),
         no_page("tests the page's length before the tables", &[7, 8, 9, 10, 11, 12], length_before),
@@ -270,8 +360,75 @@ fn limits_together(sheet: &[u8], page: &mut [u8]) {
     let (sizes, _) = sheet::read(sheet, Rules::default()).expect("the sheet is accepted");
     let [low, high] = [LOW, HIGH].map(|kind| sizes.extent(kind).0);
     let line = |index: usize| page[PAGE_LINE * index..PAGE_LINE * (index + 1)].to_vec();
-    let limits: Vec<Vec<u8>> = (0..sizes.motors).flat_map(|motor| [line(low + motor), line(high + motor)]).collect();
-    page[PAGE_LINE * low..PAGE_LINE * (high + sizes.motors)].copy_from_slice(&limits.concat());
+    let n = sizes.commands();
+    let limits: Vec<Vec<u8>> = (0..n).flat_map(|command| [line(low + command), line(high + command)]).collect();
+    page[PAGE_LINE * low..PAGE_LINE * (high + n)].copy_from_slice(&limits.concat());
+}
+
+fn limits_by_motors(sheet: &[u8], page: &mut [u8]) {
+    let (sizes, _) = sheet::read(sheet, Rules::default()).expect("the sheet is accepted");
+    let old = page.to_vec();
+    let lines = |line: usize| PAGE_LINE * line..PAGE_LINE * (line + 1);
+    for (first, n) in [LOW, HIGH].map(|kind| sizes.extent(kind)) {
+        for k in 0..n {
+            page[lines(first + k)].copy_from_slice(&old[lines(first + motors_outermost(k, &sizes))]);
+        }
+    }
+}
+
+/// Is this a line of limits, of a sheet or of a page?
+fn is_limit(line: &[u8]) -> bool {
+    line.starts_with(b"04") || line.starts_with(b"05")
+}
+
+/// The sheet with its first run of lines of limits changed.
+fn with_limit_lines(sheet: &[u8], change: impl FnOnce(&mut [Vec<u8>])) -> Vec<u8> {
+    let mut lines: Vec<Vec<u8>> = sheet.chunks(LINE).map(<[u8]>::to_vec).collect();
+    let first = lines.iter().position(|line| is_limit(line)).unwrap_or(lines.len());
+    let count = lines[first..].iter().take_while(|line| is_limit(line)).count();
+    change(&mut lines[first..first + count]);
+    lines.concat()
+}
+
+/// The intake, with another command's limits of these kinds in the place of each command's.
+fn intake_of_others(sheet: &[u8], kinds: &[u8], other: Other, out: &mut [u8]) -> Number {
+    let (sizes, old) = sheet::read(sheet, Rules::default()).expect("the lines are accepted");
+    let mut body = old.clone();
+    for (first, n) in kinds.iter().map(|&kind| sizes.extent(kind)) {
+        (0..n).for_each(|k| body[first + k] = old[first + other(k, &sizes)]);
+    }
+    match Problem::new(sizes, &body, Rules::default()).check() {
+        Ok(()) => write(&bytes(&[&sizes.words(), &body[..]].concat()), out),
+        Err(number) => number,
+    }
+}
+
+/// The answer, or 15 where the buffer has another length.
+fn write(answer: &[u8], out: &mut [u8]) -> Number {
+    if answer.len() != out.len() {
+        return 15;
+    }
+    out.copy_from_slice(answer);
+    0
+}
+
+fn intake(sheet: &[u8], out: &mut [u8]) -> Number {
+    Reference { rules: Rules::default() }.call(Kind::Intake, &[], &[sheet], out)
+}
+
+/// An image before request 3, solved with a motor's limits at every step.
+fn solve_former(inputs: &[&[u8]], out: &mut [u8]) -> Number {
+    let old = words(inputs[0]);
+    let sizes = Sizes::of_words(&old[..HEADER_WORDS]).expect("the length is tested after the sizes");
+    let (first, n) = sizes.extent(LOW);
+    if old.len() + 2 * (n - sizes.motors) != HEADER_WORDS + sizes.body_words() {
+        return 6;
+    }
+    let (tables, rest) = old.split_at(HEADER_WORDS + first);
+    let (lows, rest) = rest.split_at(sizes.motors);
+    let (highs, rest) = rest.split_at(sizes.motors);
+    let new = [tables, &lows.repeat(sizes.steps), &highs.repeat(sizes.steps), rest].concat();
+    solve([&bytes(&new), inputs[1], inputs[2], inputs[3]], out)
 }
 
 fn solve(inputs: [&[u8]; 4], out: &mut [u8]) -> Number {
@@ -342,7 +499,7 @@ fn sweep_once(kind: Kind, inputs: &[&[u8]], number: Number, out: &mut [u8]) -> N
 fn width_as_bound(kind: Kind, inputs: &[&[u8]], number: Number, out: &mut [u8]) -> Number {
     if let (Kind::Solve, Ok(problem)) = (kind, open(inputs[0], Rules::default())) {
         let half = out.len() / 2;
-        let widths: Vec<i64> = (0..half / 4).map(|k| problem.width(k)).collect();
+        let widths: Vec<i64> = (0..half / 4).map(|k| problem.width(Use::Bound, k)).collect();
         if number == 0 {
             out[half..].copy_from_slice(&bytes(&widths));
         }

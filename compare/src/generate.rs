@@ -1,13 +1,14 @@
 //! Random problems that every check accepts, and near misses of each number made from them on purpose.
 
 use crate::double::{Rounding, of_count};
-use crate::draft::{Draft, text};
+use crate::draft::{Draft, keep_former, text};
 use crate::image::{
     COST, GAIN, HIGH, LOW, MOMENTUM, Number, STATE_LIMIT, Sizes, TARGET_GAIN, TARGET_LIMIT, bytes, momentum_fits,
 };
 use crate::page::PAGE_LINE;
 use crate::process::Folder;
 use crate::random::Random;
+use crate::rules::Use;
 use crate::sheet::{Frame, LINE, MOST_LINES, hex};
 
 pub const INTAKE_NUMBERS: [Number; 12] = [1, 2, 3, 4, 5, 7, 8, 9, 10, 11, 12, 15];
@@ -139,13 +140,49 @@ fn choose_limits(random: &mut Random, draft: &mut Draft) {
         });
         return;
     }
+    let Sizes { motors, steps, .. } = draft.sizes;
     let most = random.magnitude(draft.sizes.top());
-    for motor in 0..draft.sizes.motors {
-        let (low, high) = limits(random, most);
-        draft.section(LOW)[motor] = low;
-        draft.section(HIGH)[motor] = high;
+    let course = random.pick(&[Course::Same, Course::Narrowing, Course::Widening, Course::Any, Course::Any]);
+    for motor in 0..motors {
+        for (step, (low, high)) in limits_of_steps(random, most, steps, course).into_iter().enumerate() {
+            set_limits(draft, step * motors + motor, low, high);
+        }
+    }
+    if course != Course::Same && random.one_in(3) {
+        let command = random.below(motors * steps);
+        let point = random.between(draft.section(LOW)[command], draft.section(HIGH)[command]);
+        set_limits(draft, command, point, point);
     }
     halve_to_headroom(draft, &[LOW, HIGH]);
+}
+
+fn set_limits(draft: &mut Draft, command: usize, low: i64, high: i64) {
+    draft.section(LOW)[command] = low;
+    draft.section(HIGH)[command] = high;
+}
+
+/// What becomes of a motor's limits along the steps.
+#[derive(Clone, Copy, PartialEq, Eq)]
+enum Course {
+    Same,
+    Narrowing,
+    Widening,
+    Any,
+}
+
+fn limits_of_steps(random: &mut Random, most: i64, steps: usize, course: Course) -> Vec<(i64, i64)> {
+    let (low, high) = limits(random, most);
+    let center = random.between(low, high);
+    let narrowed = |step: usize| {
+        let part = |limit: i64| center + (limit - center) * (steps - step) as i64 / steps as i64;
+        (part(low), part(high))
+    };
+    match course {
+        Course::Same => vec![(low, high); steps],
+        Course::Narrowing => (0..steps).map(narrowed).collect(),
+        Course::Widening => (0..steps).rev().map(narrowed).collect(),
+        Course::Any => (0..steps).map(|_| limits(random, most)).collect(),
+    }
 }
 
 /// A problem that every check accepts.
@@ -217,8 +254,8 @@ fn push_to_headroom(draft: &mut Draft, passing: i64, set: impl Fn(&mut Draft, i6
     inside
 }
 
-/// Moves one word, or both limits of a motor together, outward to the last value that check 12 lets pass, and then
-/// beyond it by some counts.
+/// Moves one word, both limits of a command, or those of a motor, outward to the last value that check 12 lets pass, and
+/// then beyond it by some counts.
 fn at_headroom(random: &mut Random, draft: &mut Draft, beyond: i64) {
     let without_targets = [GAIN, GAIN, STATE_LIMIT, LOW, HIGH];
     let with_targets = [GAIN, STATE_LIMIT, TARGET_GAIN, TARGET_GAIN, TARGET_LIMIT, LOW, HIGH];
@@ -226,6 +263,10 @@ fn at_headroom(random: &mut Random, draft: &mut Draft, beyond: i64) {
     let (start, length) = draft.sizes.extent(kind);
     let index = random.below(length);
     let both = kind == HIGH && random.one_in(2);
+    // Limits that are the same at every step often stay so.
+    let alike = matches!(kind, LOW | HIGH) && random.one_in(2) && !draft.problem().limits_change();
+    let motors = draft.sizes.motors;
+    let indices = if alike { (index % motors..length).step_by(motors).collect() } else { vec![index] };
     let old = draft.body[start + index];
     let sign = match kind {
         LOW => -1,
@@ -235,9 +276,11 @@ fn at_headroom(random: &mut Random, draft: &mut Draft, beyond: i64) {
         _ => 1,
     };
     let set = |draft: &mut Draft, magnitude: i64| {
-        draft.section(kind)[index] = sign * magnitude;
-        if both {
-            draft.section(LOW)[index] = sign * magnitude;
+        for &index in &indices {
+            draft.section(kind)[index] = sign * magnitude;
+            if both {
+                draft.section(LOW)[index] = sign * magnitude;
+            }
         }
     };
     let last = push_to_headroom(draft, if both { 0 } else { sign * old }, set);
@@ -252,10 +295,9 @@ fn spoil_tables(random: &mut Random, draft: &mut Draft, number: Number) {
     match number {
         5 => word_beyond(random, draft),
         7 => {
-            let motor = random.below(draft.sizes.motors);
-            let high = random.between(-top, draft.section(HIGH)[motor].min(top - 1));
-            draft.section(HIGH)[motor] = high;
-            draft.section(LOW)[motor] = (high + 1 + more).min(top);
+            let command = random.below(n);
+            let high = random.between(-top, draft.section(HIGH)[command].min(top - 1));
+            set_limits(draft, command, (high + 1 + more).min(top), high);
         }
         8 => {
             let column = (row + 1 + random.below(n)) % n;
@@ -282,8 +324,8 @@ fn word_beyond(random: &mut Random, draft: &mut Draft) {
         let word = -1 - random.magnitude(top - 1);
         limits[random.below(limits.len())] = random.pick(&[-1, word]);
     } else {
-        let index = random.below(draft.body.len());
-        draft.body[index] = random.pick(&[top + 1, -top - 1, i32::MIN as i64]);
+        let (first, length) = random.pick(&[(0, draft.body.len()), draft.sizes.extent(LOW), draft.sizes.extent(HIGH)]);
+        draft.body[first + random.below(length)] = random.pick(&[top + 1, -top - 1, i32::MIN as i64]);
     }
 }
 
@@ -348,12 +390,12 @@ pub fn solve_case(random: &mut Random, plan: &Plan) -> SolveCase {
         spoil_header(random, &draft.sizes, &mut image);
     }
     if plan.has(6) {
-        spoil_length(random, targets, &mut image);
+        spoil_length(random, &draft, &mut image);
     }
     let problem = draft.problem();
     let mut state = words_within(random, &problem.state_ranges(), plan.has(13));
     let mut target = words_within(random, &problem.target_ranges(), plan.has(16));
-    let mut start = words_within(random, &problem.command_ranges(), plan.has(14));
+    let mut start = start_within(random, &draft.sizes, problem.command_ranges(Use::Start), plan.has(14));
     if plan.damage {
         match random.below(8) {
             0 => damage(random, &mut state),
@@ -365,16 +407,24 @@ pub fn solve_case(random: &mut Random, plan: &Plan) -> SolveCase {
     SolveCase { draft, image, state, target, start }
 }
 
-/// Provokes 6: another length, or another nr in the header.
-fn spoil_length(random: &mut Random, targets: usize, image: &mut Vec<u8>) {
-    if random.one_in(4) {
-        let other = (targets + 1 + random.below(4)) % 5;
-        put_word(image, 6, other as i64);
-        return;
+/// Spoilt, a start is often within the limits of other steps than its own.
+fn start_within(random: &mut Random, sizes: &Sizes, mut limits: Vec<(i64, i64)>, spoilt: bool) -> Vec<u8> {
+    if spoilt && random.one_in(2) {
+        limits.rotate_left(sizes.motors * random.below(sizes.steps));
+        return words_within(random, &limits, false);
     }
+    words_within(random, &limits, spoilt)
+}
+
+/// Provokes 6: another length, another nr in the header, or the image before request 3, for which N 1 is right.
+fn spoil_length(random: &mut Random, draft: &Draft, image: &mut Vec<u8>) {
     let short = random.below(32);
     let length = other_size(random, image.len());
-    image.resize(random.pick(&[short, 31, 32, length, length]), 0);
+    match random.below(8) {
+        0 | 1 => put_word(image, 6, ((draft.sizes.targets + 1 + random.below(4)) % 5) as i64),
+        2 => *image = bytes(&draft.former_words()),
+        _ => image.resize(random.pick(&[short, 31, 32, length, length]), 0),
+    }
 }
 
 fn put_word(image: &mut [u8], index: usize, word: i64) {
@@ -486,8 +536,8 @@ pub fn edge_doubles(bits: u32, width: u32) -> Vec<u64> {
     edges
 }
 
-/// A sheet's text, spoilt as planned, and the draft it was made from.
-pub fn sheet_case(random: &mut Random, plan: &Plan) -> (Draft, Vec<u8>) {
+/// A sheet's frames, spoilt as planned, and the draft they were made from.
+fn frames_of(random: &mut Random, plan: &Plan) -> (Draft, Vec<Frame>) {
     let targets = plan.targets(random);
     let mut draft = accepted(random, targets);
     for &number in &plan.numbers {
@@ -498,6 +548,12 @@ pub fn sheet_case(random: &mut Random, plan: &Plan) -> (Draft, Vec<u8>) {
     for &number in &plan.numbers {
         spoil_frames(random, &draft.sizes, &mut frames, number);
     }
+    (draft, frames)
+}
+
+/// A sheet's text, spoilt as planned, and the draft it was made from.
+pub fn sheet_case(random: &mut Random, plan: &Plan) -> (Draft, Vec<u8>) {
+    let (draft, frames) = frames_of(random, plan);
     let mut text = text(&frames);
     for &number in &plan.numbers {
         spoil_text(random, &mut text, number);
@@ -544,16 +600,20 @@ fn target_lines(sizes: &Sizes) -> usize {
     (sizes.commands() + 1) * sizes.targets
 }
 
-/// Any line, those of the targets often.
+/// Any line, those of the targets and of the limits often.
 fn some_line(random: &mut Random, sizes: &Sizes, lines: usize) -> usize {
-    let last = target_lines(sizes);
-    if last > 0 && random.one_in(3) { lines - 1 - random.below(last) } else { random.below(lines) }
+    let (targets, limits) = (target_lines(sizes), sizes.extent(LOW).0 + 1);
+    match random.below(3) {
+        0 if targets > 0 => lines - 1 - random.below(targets),
+        1 => (limits + random.below(2 * sizes.commands())).min(lines - 1),
+        _ => random.below(lines),
+    }
 }
 
 /// Provokes 2: another kind, row or column, a byte of line 01 that should be 0, another nr, lines out of order.
 fn spoil_order(random: &mut Random, sizes: &Sizes, frames: &mut Vec<Frame>, line: usize) {
     let other = some_line(random, sizes, frames.len());
-    match random.below(8) {
+    match random.below(12) {
         0 => frames.swap(line, other),
         1 => frames.insert(line, frames[random.pick(&[line, other])]),
         2 => drop(frames.remove(line)),
@@ -566,12 +626,45 @@ fn spoil_order(random: &mut Random, sizes: &Sizes, frames: &mut Vec<Frame>, line
             let first = frames.len() - moved;
             frames[first..].rotate_right(across);
         }
+        6..10 => spoil_limit_lines(random, sizes, frames),
         _ => {
             let byte = random.below(3);
             let (old, other) = (frames[line][byte], random.next() as u8);
             frames[line][byte] = random.pick(&[old.wrapping_add(1), old.wrapping_sub(1), other]);
         }
     }
+}
+
+/// The lines of limits in another order, or with another row or column, than request 3 has them.
+fn spoil_limit_lines(random: &mut Random, sizes: &Sizes, frames: &mut Vec<Frame>) {
+    let is_limit = |frame: &Frame| matches!(frame[0], LOW | HIGH);
+    let first = frames.iter().position(is_limit).unwrap_or(frames.len());
+    let count = frames[first..].iter().take_while(|frame| is_limit(frame)).count();
+    let limits = &mut frames[first..first + count];
+    let last_step = sizes.steps as u8 - 1;
+    match random.below(10) {
+        // Motors outermost.
+        0 => limits.sort_by_key(|&[kind, row, column, ..]| [kind, row, column]),
+        // A step's highs behind its lows, and a command's high behind its low.
+        1 => limits.sort_by_key(|&[kind, row, column, ..]| [column, kind, row]),
+        2 => limits.sort_by_key(|&[kind, row, column, ..]| [column, row, kind]),
+        3 => limits.rotate_left(count / 2),
+        // A high before the last low.
+        4 if count > 1 => limits.swap(count / 2 - 1, count / 2),
+        5 => limits.iter_mut().for_each(|frame| frame[2] = 0),
+        6 => limits.iter_mut().for_each(|frame| frame.swap(1, 2)),
+        // A step N in the place of the last one, and steps counted from 1.
+        7 => limits.iter_mut().filter(|frame| frame[2] == last_step).for_each(|frame| frame[2] += 1),
+        8 => limits.iter_mut().for_each(|frame| frame[2] = frame[2].wrapping_add(1)),
+        _ => keep_former(frames),
+    }
+}
+
+/// A sheet of the former layout, and the draft whose first step's limits it has.
+pub fn former_sheet(random: &mut Random) -> (Draft, Vec<u8>) {
+    let (draft, mut frames) = frames_of(random, &Plan::nothing());
+    keep_former(&mut frames);
+    (draft, text(&frames))
 }
 
 /// Provokes 1 or 4 in the text.

@@ -5,7 +5,7 @@ use std::fs::File;
 use std::os::unix::fs::FileExt;
 
 use crate::drive::{Call, Drive, Kind, Outcome, outcome};
-use crate::image::{HEADER_WORDS, Number, words};
+use crate::image::{HEADER_WORDS, Number, Problem, Sizes, words};
 use crate::page::{self, PAGE_LINE};
 use crate::rules::Rules;
 use crate::sheet::hex;
@@ -89,6 +89,8 @@ pub struct Harness<'a> {
     pub sizes: BTreeSet<Vec<i64>>,
     pub formats: BTreeSet<Vec<i64>>,
     pub targets: BTreeSet<(i64, i64)>,
+    /// The nu and N of those whose limits change from step to step.
+    pub changing: BTreeSet<(i64, i64)>,
     /// The kinds of accepted pages by their last digit, and the marks.
     pub marks: BTreeSet<(u8, u8)>,
     /// The group and index under way; also in a file, for whoever finds the program crashed.
@@ -108,6 +110,7 @@ impl<'a> Harness<'a> {
             sizes: BTreeSet::new(),
             formats: BTreeSet::new(),
             targets: BTreeSet::new(),
+            changing: BTreeSet::new(),
             marks: BTreeSet::new(),
             place: ("", 0),
             place_file,
@@ -145,10 +148,15 @@ impl<'a> Harness<'a> {
     }
 
     fn cover_solve(&mut self, image: &[u8]) {
-        let header = words(&image[..4 * HEADER_WORDS]);
+        let words = words(image);
+        let (header, body) = words.split_at(HEADER_WORDS);
         self.sizes.insert(header[..3].to_vec());
         self.formats.insert(header[3..5].to_vec());
         self.targets.insert((header[0] * header[1], header[6]));
+        let sizes = Sizes::of_words(header).expect("the image is accepted");
+        if Problem::new(sizes, body, Rules::default()).limits_change() {
+            self.changing.insert((header[0], header[1]));
+        }
     }
 
     fn cover_page(&mut self, page: &[u8]) {

@@ -3,7 +3,7 @@
 use std::ops::Index;
 
 use crate::double::Rounding::{self, Down, Up};
-use crate::rules::Rules;
+use crate::rules::{Rules, Use};
 
 /// The number of a refusal; 0 where a call is accepted.
 pub type Number = u32;
@@ -49,6 +49,14 @@ impl Section {
             _ => true,
         };
         has_signs || word >= 0
+    }
+
+    /// The row and column of an entry: rows outermost, but of limits the steps, which are their columns.
+    fn place(&self, index: usize) -> (usize, usize) {
+        match self.kind {
+            LOW | HIGH => (index % self.rows, index / self.rows),
+            _ => (index / self.columns, index % self.columns),
+        }
     }
 }
 
@@ -111,8 +119,8 @@ impl Sizes {
         [
             section(COST, n, n, Down),
             section(GAIN, n, self.states, Down),
-            section(LOW, self.motors, 1, Up),
-            section(HIGH, self.motors, 1, Down),
+            section(LOW, self.motors, self.steps, Up),
+            section(HIGH, self.motors, self.steps, Down),
             section(MOMENTUM, 1, 1, Up),
             section(STATE_LIMIT, self.states, 1, Up),
             section(TARGET_GAIN, n, self.targets, Down),
@@ -123,7 +131,10 @@ impl Sizes {
     /// The section, row and column of every body word in order.
     pub fn places(&self) -> impl Iterator<Item = (Section, usize, usize)> {
         self.sections().into_iter().flat_map(|section| {
-            (0..section.rows * section.columns).map(move |i| (section, i / section.columns, i % section.columns))
+            (0..section.rows * section.columns).map(move |index| {
+                let (row, column) = section.place(index);
+                (section, row, column)
+            })
         })
     }
 
@@ -193,7 +204,6 @@ impl Problem {
             let (start, length) = sizes.extent(kind);
             &body[start..start + length]
         };
-        let per_command = |kind| section(kind).iter().copied().cycle().take(n).collect();
         let cost = section(COST).to_vec();
         let mut descent: Vec<i64> = cost.iter().map(|entry| -entry).collect();
         descent.iter_mut().step_by(n + 1).for_each(|entry| *entry += sizes.one());
@@ -203,16 +213,30 @@ impl Problem {
             cost: Table { columns: n, entries: cost },
             descent: Table { columns: n, entries: descent },
             gains: beside(n, section(GAIN), section(TARGET_GAIN)),
-            lower: per_command(LOW),
-            upper: per_command(HIGH),
+            lower: section(LOW).to_vec(),
+            upper: section(HIGH).to_vec(),
             momentum: section(MOMENTUM)[0],
             input_limits: [section(STATE_LIMIT), section(TARGET_LIMIT)].concat(),
         }
     }
 
-    /// What each command is held to.
-    pub fn command_ranges(&self) -> Vec<(i64, i64)> {
-        self.lower.iter().copied().zip(self.upper.iter().copied()).collect()
+    /// A command's low and high: those of its own step, unless a false economy takes others.
+    pub fn limits(&self, place: Use, command: usize) -> (i64, i64) {
+        let command = match self.rules.other_limits {
+            Some((uses, other)) if uses.contains(&place) => other(command, &self.sizes),
+            _ => command,
+        };
+        (self.lower[command], self.upper[command])
+    }
+
+    pub fn command_ranges(&self, place: Use) -> Vec<(i64, i64)> {
+        (0..self.sizes.commands()).map(|k| self.limits(place, k)).collect()
+    }
+
+    /// Has some motor other limits at one step than at the step before?
+    pub fn limits_change(&self) -> bool {
+        let motors = self.sizes.motors;
+        [&self.lower, &self.upper].iter().any(|limits| limits[motors..] != limits[..limits.len() - motors])
     }
 
     /// Minus and plus each state's limit.
@@ -225,8 +249,9 @@ impl Problem {
     }
 
     /// w.
-    pub fn width(&self, command: usize) -> i64 {
-        self.upper[command] - self.lower[command]
+    pub fn width(&self, place: Use, command: usize) -> i64 {
+        let (low, high) = self.limits(place, command);
+        high - low
     }
 
     /// The checks 7 to 12: each number over all its rows before the next.
@@ -247,7 +272,7 @@ impl Problem {
     }
 
     fn limits_cross(&self) -> bool {
-        (0..self.lower.len()).any(|k| self.lower[k] > self.upper[k])
+        self.command_ranges(Use::Crossing).iter().any(|(low, high)| low > high)
     }
 
     fn is_not_symmetric(&self) -> bool {
@@ -286,9 +311,10 @@ impl Problem {
         let (top, momentum) = (self.sizes.top() as i128, self.momentum as i128);
         let mut point_bounds = Vec::new();
         for k in 0..self.lower.len() {
-            let largest = self.lower[k].abs().max(self.upper[k].abs()) as i128;
+            let (low, high) = self.limits(Use::Magnitude, k);
+            let largest = low.abs().max(high.abs()) as i128;
             let product_bound = largest + self.up(momentum * largest);
-            let point_bound = largest + self.up(momentum * self.width(k) as i128);
+            let point_bound = largest + self.up(momentum * self.width(Use::Spread, k) as i128);
             if product_bound > top || point_bound > top {
                 return true;
             }

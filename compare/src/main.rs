@@ -1,4 +1,4 @@
-//! The second program: document 01 with requests 1 and 2 implemented on its own, beside the static library, the label
+//! The second program: document 01 with requests 1 to 3 implemented on its own, beside the static library, the label
 //! program and the page program.
 
 mod big;
@@ -34,7 +34,8 @@ compare --label and compare --page act as the label and the page program in the 
 /// Random solves of a run; the other groups are in proportion.
 const COUNT: u64 = 100_000;
 const LONG_COUNT: u64 = 20 * COUNT;
-/// From this count on a run has to have met every number of every call, every size, and every nr with every n.
+/// From this count on a run has to have met every number of every call, every size, every nr with every n, and
+/// limits that change along every N.
 const COVERING_COUNT: u64 = 20_000;
 
 struct Options {
@@ -170,6 +171,9 @@ fn require_cover(harness: &mut Harness) {
     let [sizes, formats, targets] = covered;
     println!("accepted solves: {sizes} of 396 sizes, {formats} of 320 pairs of b and W, {targets} of 80 of n and nr");
     harness.check(covered == [396, 320, 80], || "  some sizes were never solved".to_string());
+    let changing = harness.changing.len();
+    println!("accepted solves with limits that change: {changing} of 29 pairs of nu and N above 1");
+    harness.check(changing == 29, || "  some steps never had limits of their own".to_string());
     println!("accepted pages: {} of 16 pairs of kind and mark", harness.marks.len());
     for (kind, mark) in (b'2'..=b'9').flat_map(|kind| [(kind, b'K'), (kind, b'M')]) {
         let met = harness.marks.contains(&(kind, mark));

@@ -1,4 +1,27 @@
-//! Where a false economy departs from the rules of document 01 and request 1; those of request 2 change the page alone.
+//! Where a false economy departs from the rules of document 01 and requests 1 and 3; those of request 2 change the page
+//! alone.
+
+use crate::image::Sizes;
+
+/// Where a command's limits count.
+#[derive(Clone, Copy, PartialEq, Eq)]
+pub enum Use {
+    /// Number 7.
+    Crossing,
+    /// zb.
+    Magnitude,
+    /// w in Y.
+    Spread,
+    /// Number 14.
+    Start,
+    ColdStart,
+    Sweep,
+    /// w in the error bound.
+    Bound,
+}
+
+/// The command whose limits stand in for those of a command.
+pub type Other = fn(usize, &Sizes) -> usize;
 
 /// The default is the papers' rules.
 #[derive(Clone, Copy, Default)]
@@ -15,4 +38,6 @@ pub struct Rules {
     pub linear_term_rounded_once: bool,
     /// Another c of n, nx and nr.
     pub other_c: Option<fn(usize, usize, usize) -> usize>,
+    /// Another command's limits in some uses.
+    pub other_limits: Option<(&'static [Use], Other)>,
 }

@@ -6,8 +6,8 @@ use crate::rules::Rules;
 
 pub const FRAME: usize = 11;
 pub const LINE: usize = 2 * FRAME + 1;
-/// The lines of 4 motors, 4 steps, 12 states and 4 targets.
-pub const MOST_LINES: usize = 1 + 16 * 16 + 16 * 12 + 2 * 4 + 1 + 12 + 16 * 4 + 4;
+/// The lines of 16 commands, 12 states and 4 targets.
+pub const MOST_LINES: usize = 1 + 16 * 16 + 16 * 12 + 2 * 16 + 1 + 12 + 16 * 4 + 4;
 
 /// Kind, row, column and the eight value bytes.
 pub type Frame = [u8; FRAME];

@@ -2,7 +2,7 @@
 
 use crate::big::Big;
 use crate::image::{Number, Problem, Sizes, bytes, open, words};
-use crate::rules::Rules;
+use crate::rules::{Rules, Use};
 
 /// The rounded scheme. Sums are exact, so the order in which document 01 takes them is left to the drive.
 pub struct Rounded<'a> {
@@ -47,7 +47,7 @@ impl<'a> Rounded<'a> {
         self.t = rows.map(|(row, linear)| self.terms(row, &self.y).sum::<i64>() - linear).collect();
         for k in 0..self.z.len() {
             let old = self.z[k];
-            self.z[k] = self.t[k].clamp(problem.lower[k], problem.upper[k]);
+            self.z[k] = held(self.t[k], problem.limits(Use::Sweep, k));
             let new = if problem.rules.momentum_from_unclamped { self.t[k] } else { self.z[k] };
             self.y[k] = self.product(one + momentum, new) - self.product(momentum, old);
         }
@@ -87,7 +87,7 @@ impl<'a> ErrorBound<'a> {
         let bound = |k: usize| {
             let sum = problem.descent[k].iter().zip(&self.point).map(|(m, q)| m.abs() * q).sum();
             // What the answer's word can hold is all that is left without w.
-            let most = if problem.rules.width_left_out { u32::MAX as i64 } else { problem.width(k) };
+            let most = if problem.rules.width_left_out { u32::MAX as i64 } else { problem.width(Use::Bound, k) };
             most.min(self.up(sum) + rounding)
         };
         let new = (0..self.e.len()).map(bound).collect();
@@ -153,9 +153,13 @@ fn undivided(row: &[i64], inputs: &[i64]) -> i64 {
     row.iter().zip(inputs).map(|(a, b)| a * b).sum()
 }
 
+/// Not clamp, which stops at limits that cross: a false economy may let them pass.
+fn held(value: i64, (low, high): (i64, i64)) -> i64 {
+    value.min(high).max(low)
+}
+
 pub fn cold_start(problem: &Problem) -> Vec<i64> {
-    let limits = problem.lower.iter().zip(&problem.upper);
-    limits.map(|(&lower, &upper)| 0.clamp(lower, upper)).collect()
+    problem.command_ranges(Use::ColdStart).into_iter().map(|limits| held(0, limits)).collect()
 }
 
 /// The commands, then the bounds.
@@ -181,7 +185,7 @@ pub fn read_target(problem: &Problem, target: &[u8]) -> Result<Vec<i64>, Number>
 
 /// Number 14: the start is n words within the commands' limits.
 pub fn read_start(problem: &Problem, start: &[u8]) -> Result<Vec<i64>, Number> {
-    read_within(start, &problem.command_ranges()).ok_or(14)
+    read_within(start, &problem.command_ranges(Use::Start)).ok_or(14)
 }
 
 fn read_within(bytes: &[u8], limits: &[(i64, i64)]) -> Option<Vec<i64>> {

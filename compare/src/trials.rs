@@ -12,14 +12,13 @@ use crate::economies;
 use crate::former::Former;
 use crate::generate::{self, Plan, SolveCase};
 use crate::harness::{Harness, Lent};
-use crate::image::{HEADER_WORDS, Problem, Sizes, bytes, sizes_of_word_fit, top, words};
+use crate::image::{HEADER_WORDS, Number, Problem, Sizes, bytes, sizes_of_word_fit, top, words};
 use crate::label;
 use crate::page::{self, PAGE_LINE};
 use crate::process::Program;
 use crate::random::Random;
-use crate::rules::Rules;
 use crate::sheet::{LINE, MOST_LINES};
-use crate::solve::{ErrorBound, Exact, Rounded, solve_call};
+use crate::solve::{ErrorBound, Exact, Rounded};
 
 type Trial = Box<dyn Fn(&mut Harness, u64, &mut Random)>;
 
@@ -48,6 +47,7 @@ pub fn groups(count: u64, has_conversions: bool, work: &Path) -> Vec<Group> {
         group("intake", count, intake),
         group("page", count / 4, page),
         group("demand3", count / 25, demand3),
+        group("former", count / 50, former),
     ];
     if has_conversions {
         let formats = formats().len() as u64;
@@ -132,8 +132,8 @@ fn put_back(harness: &mut Harness, sheet: &[u8], page: &[u8]) {
 }
 
 /// Small problems, whose bytes are damaged one by one.
-fn victims() -> [Draft; 3] {
-    [cases::sample(), cases::two_motors(), cases::two_targets()]
+fn victims() -> [Draft; 4] {
+    [cases::sample(), cases::two_motors(), cases::two_targets(), cases::motors_and_steps()]
 }
 
 fn damaged_bytes() -> u64 {
@@ -242,6 +242,80 @@ fn is_near(rounded: &Rounded, bound: &ErrorBound, exact: &Exact) -> bool {
     (0..rounded.z.len()).all(|k| exact.is_near(k, rounded.z[k], bound.e[k]))
 }
 
+/// Request 3 beside the drive before it.
+fn former(harness: &mut Harness, index: u64, random: &mut Random) {
+    one_step(harness, index, random);
+    former_layout(harness, random);
+    same_limits(harness, index, random);
+}
+
+/// A sheet with N 1, accepted or not, reads as before.
+fn one_step(harness: &mut Harness, index: u64, random: &mut Random) {
+    let plan = Plan::new(random, index, &generate::INTAKE_NUMBERS);
+    let (draft, sheet) = first(|| generate::sheet_case(random, &plan), |(draft, _)| draft.sizes.steps == 1);
+    // Damage may have changed N.
+    if sheet.get(4..6).is_some_and(|steps| steps != b"01") {
+        return;
+    }
+    let (number, image, page) = match Former::read(&sheet) {
+        Ok((former, page)) => (0, Some(bytes(&former.words)), Some(page.into_bytes())),
+        Err(number) => (number, None, None),
+    };
+    for (kind, out_len, written) in
+        [(Kind::Intake, draft.image().len(), image), (Kind::Page, PAGE_LINE * draft.body.len(), page)]
+    {
+        let outcome = harness.compare(&Call::on_buffers(kind, &[&sheet], out_len));
+        let holds = (outcome.number, outcome.written) == (number, written);
+        harness.check(holds, || format!("  {}: N 1 does not read as before, with {number}", kind.name()));
+    }
+}
+
+/// A sheet that was accepted with N above 1 is 2 now, and its image has not the length due.
+fn former_layout(harness: &mut Harness, random: &mut Random) {
+    let (draft, sheet, former) = loop {
+        let (draft, sheet) = generate::former_sheet(random);
+        if let (2.., Ok((former, _))) = (draft.sizes.steps, Former::read(&sheet)) {
+            break (draft, sheet, former);
+        }
+    };
+    let image = bytes(&former.words);
+    let (n, zeros) = (draft.sizes.commands(), |length: usize| vec![0; 4 * length]);
+    let (state, target) = (zeros(draft.sizes.states), zeros(draft.sizes.targets));
+    let mut refused = |kind, lent: &[&[u8]], out_len, number| {
+        let outcome = harness.compare(&Call::on_buffers(kind, lent, out_len));
+        harness.check(outcome.number == number, || format!("  the former layout is not {number}"));
+    };
+    for (image_len, lines) in
+        [(image.len(), former.words.len() - HEADER_WORDS), (draft.image().len(), draft.body.len())]
+    {
+        refused(Kind::Intake, &[&sheet], image_len, 2);
+        refused(Kind::Page, &[&sheet], PAGE_LINE * lines, 2);
+    }
+    refused(Kind::ColdStart, &[&image], 4 * n, 6);
+    refused(Kind::Solve, &[&image, &state, &target, &zeros(n)], 8 * n, 6);
+}
+
+/// Where all steps of a motor have the same limits, as with N 1, number and answer are the former ones.
+fn same_limits(harness: &mut Harness, index: u64, random: &mut Random) {
+    let number = random.between(7, 12) as Number;
+    let plan = if index.is_multiple_of(2) { Plan::nothing() } else { Plan::only(number) };
+    let case = first(|| generate::solve_case(random, &plan), |case| !case.draft.problem().limits_change());
+    let former = Former::new(case.draft.former_words());
+    let expected = match former.number() {
+        0 => Ok(bytes(&former.answer(&[words(&case.state), words(&case.target)].concat(), &words(&case.start)))),
+        number => Err(number),
+    };
+    let lent: [&[u8]; 4] = [&case.image, &case.state, &case.target, &case.start];
+    let outcome = harness.compare(&Call::on_buffers(Kind::Solve, &lent, 8 * case.draft.sizes.commands()));
+    let found = outcome.written.ok_or(outcome.number);
+    harness.check(found == expected, || format!("  the former drive answered {expected:?}"));
+}
+
+/// The first draw that is fit.
+fn first<T>(draw: impl FnMut() -> T, fit: impl FnMut(&T) -> bool) -> T {
+    std::iter::repeat_with(draw).find(fit).expect("draws do not end")
+}
+
 /// All b and W that fit each other.
 fn formats() -> Vec<(u32, u32)> {
     let pairs = (4..=20).flat_map(|b| (8..=32).map(move |w| (b, w)));
@@ -307,7 +381,7 @@ fn itself(harness: &mut Harness, _: u64, random: &mut Random) {
     programs_agree(harness);
     marks_agree(harness, random);
     targets_agree(harness);
-    former_agrees(harness, random);
+    steps_agree(harness);
     let problem = cases::sample().problem();
     let holds =
         sums_in_range(&problem, [100, 27, -127].into_iter()) && !sums_in_range(&problem, [-100, 100, 28].into_iter());
@@ -390,6 +464,16 @@ fn sample_agrees(harness: &mut Harness) {
     harness.check(holds, || "  the bound's test does not tell near from far".to_string());
 }
 
+/// Two motors and two steps: −17.5 after three exact sweeps, as in S, where a step's limits do not hold the command.
+fn steps_agree(harness: &mut Harness) {
+    let problem = cases::motors_and_steps().problem();
+    let mut exact = Exact::new(&problem, &[10], &[0; 4]);
+    (0..3).for_each(|_| exact.step());
+    let doubled = [-35, -8, -4, -35];
+    let holds = exact.commands.iter().zip(doubled).all(|(command, twice)| command.times(2) == exact.scale.times(twice));
+    harness.check(holds, || "  the exact scheme is not held by its steps".to_string());
+}
+
 /// S with a target: its text, and −11.375 after three exact sweeps (see the case). And the longest sheet and image.
 fn targets_agree(harness: &mut Harness) {
     let draft = cases::with_target();
@@ -402,28 +486,7 @@ fn targets_agree(harness: &mut Harness) {
     let sizes = Sizes { motors: 4, steps: 4, states: 12, targets: 4, ..draft.sizes };
     let longest = Draft::new(sizes);
     let lengths = (longest.sheet().len(), longest.image().len());
-    // 538 lines of 23 bytes; 8 words and one for each line but the first.
-    let holds = lengths == (12374, 2180) && lengths.0 == MOST_LINES * LINE;
+    // 562 lines of 23 bytes; 8 words and one for each line but the first.
+    let holds = lengths == (12926, 2276) && lengths.0 == MOST_LINES * LINE;
     harness.check(holds, || format!("  the longest sheet and image have {lengths:?} bytes"));
-}
-
-/// With nr 0 every old sheet gives its old answer.
-fn former_agrees(harness: &mut Harness, random: &mut Random) {
-    for _ in 0..400 {
-        let case = generate::solve_case(random, &Plan::nothing());
-        if case.draft.sizes.targets > 0 {
-            continue;
-        }
-        let former = Former::new(case.draft.words());
-        let lengths = (case.draft.sheet().len(), case.image.len());
-        let answer = former.answer(&words(&case.state), &words(&case.start));
-        let lent: [&[u8]; 4] = [&case.image, &case.state, &[], &case.start];
-        let found = solve_call(lent, 4 * answer.len(), Rules::default());
-        let holds = lengths == (former.sheet_len(), former.image_len()) && found == Ok(bytes(&answer));
-        harness.check(holds, || format!("  the former answer of {:?} is {answer:?}", case.draft));
-        let beyond = generate::solve_case(random, &Plan::only(12)).draft;
-        let holds = beyond.sizes.targets > 0
-            || beyond.problem().leaves_headroom() == Former::new(beyond.words()).leaves_headroom();
-        harness.check(holds, || format!("  12 is not the former one for {beyond:?}"));
-    }
 }
