@@ -9,7 +9,7 @@
 #include "gantry.h"
 
 struct problem {
-    int nu, n, nx, nr, b, sweeps;
+    int n, nx, nr, b, sweeps;
     uint8_t image[GANTRY_MAX_IMAGE_BYTES];
     uint8_t state[GANTRY_STATE_BYTES(GANTRY_MAX_STATES)];
     uint8_t target[GANTRY_TARGET_BYTES(GANTRY_MAX_TARGETS)];
@@ -41,7 +41,7 @@ struct tables {
 
 static int accepted(const struct problem *p, const struct tables *t)
 {
-    int n = p->n, limits = 8 + n * n + n * p->nx, targets = limits + 2 * p->nu + 1 + p->nx;
+    int n = p->n, limits = 8 + n * n + n * p->nx, targets = limits + 2 * n + 1 + p->nx;
     int64_t f = 1ll << p->b, least = INT64_MAX, largest = 0, top = INT32_MAX;
     for (int i = 0; i < n; i++) {
         int64_t others = 0, diagonal = word(p, 8 + i * n + i);
@@ -60,7 +60,7 @@ static int accepted(const struct problem *p, const struct tables *t)
         for (int j = 0; j < n; j++)
             sum += up(magnitude(t->m[i][j]) * t->y[j], p->b);
         for (int j = 0; j < p->nx; j++)
-            sum += up(magnitude(word(p, 8 + n * n + i * p->nx + j)) * word(p, limits + 2 * p->nu + 1 + j), p->b);
+            sum += up(magnitude(word(p, 8 + n * n + i * p->nx + j)) * word(p, limits + 2 * n + 1 + j), p->b);
         for (int j = 0; j < p->nr; j++)
             sum += up(magnitude(word(p, targets + i * p->nr + j)) * word(p, targets + n * p->nr + j), p->b);
         if (sum > top || t->y[i] > top)
@@ -71,11 +71,11 @@ static int accepted(const struct problem *p, const struct tables *t)
 
 static void load(const struct problem *p, struct tables *t)
 {
-    int n = p->n, limits = 8 + n * n + n * p->nx, targets = limits + 2 * p->nu + 1 + p->nx;
-    t->beta = word(p, limits + 2 * p->nu);
+    int n = p->n, limits = 8 + n * n + n * p->nx, targets = limits + 2 * n + 1 + p->nx;
+    t->beta = word(p, limits + 2 * n);
     for (int i = 0; i < n; i++) {
-        t->low[i] = word(p, limits + i % p->nu);
-        t->high[i] = word(p, limits + p->nu + i % p->nu);
+        t->low[i] = word(p, limits + i);
+        t->high[i] = word(p, limits + n + i);
         int64_t zb = magnitude(t->low[i]) > magnitude(t->high[i]) ? magnitude(t->low[i]) : magnitude(t->high[i]);
         t->y[i] = zb + up(t->beta * (t->high[i] - t->low[i]), p->b);
         t->h[i] = 0;
@@ -136,8 +136,8 @@ static void make(struct problem *p, int nu, int steps, int nx, int nr, int b, in
     int n = nu * steps, at = 8 + n * n;
     int64_t f = 1ll << b;
     memset(p, 0, sizeof *p);
-    p->nu = nu, p->n = n, p->nx = nx, p->nr = nr, p->b = b, p->sweeps = sweeps;
-    p->image_len = GANTRY_IMAGE_BYTES(nu, n, nx, nr);
+    p->n = n, p->nx = nx, p->nr = nr, p->b = b, p->sweeps = sweeps;
+    p->image_len = GANTRY_IMAGE_BYTES(n, nx, nr);
     int head[8] = {nu, steps, nx, b, 32, sweeps, nr, 0};
     for (int i = 0; i < 8; i++)
         put(p->image + 4 * i, head[i]);
@@ -150,24 +150,24 @@ static void make(struct problem *p, int nu, int steps, int nx, int nr, int b, in
     for (int i = 0; i < n * nx; i++)
         put(p->image + 4 * (at + i), random_word(f));
     at += n * nx;
-    for (int i = 0; i < nu; i++) {
-        put(p->image + 4 * (at + i), -20 * f);
-        put(p->image + 4 * (at + nu + i), 20 * f);
+    for (int i = 0; i < n; i++) {
+        int64_t limit = (20 - i / nu) * f; /* a little narrower at each step */
+        put(p->image + 4 * (at + i), -limit);
+        put(p->image + 4 * (at + n + i), limit);
+        put(p->start + 4 * i, random_word(limit));
     }
-    put(p->image + 4 * (at + 2 * nu), f / 2);
+    put(p->image + 4 * (at + 2 * n), f / 2);
     for (int i = 0; i < nx; i++) {
-        put(p->image + 4 * (at + 2 * nu + 1 + i), 4 * f);
+        put(p->image + 4 * (at + 2 * n + 1 + i), 4 * f);
         put(p->state + 4 * i, random_word(4 * f));
     }
-    at += 2 * nu + 1 + nx;
+    at += 2 * n + 1 + nx;
     for (int i = 0; i < n * nr; i++)
         put(p->image + 4 * (at + i), random_word(f));
     for (int i = 0; i < nr; i++) {
         put(p->image + 4 * (at + n * nr + i), 4 * f);
         put(p->target + 4 * i, random_word(4 * f));
     }
-    for (int i = 0; i < n; i++)
-        put(p->start + 4 * i, random_word(20 * f));
 }
 
 static uint32_t library(const struct problem *p, uint8_t *answer)

@@ -15,9 +15,9 @@ static const char sheet[] =
     "0600000000000000000000\n"
     "0700003FE4000000000000\n";
 
-enum { NU = 1, COMMANDS = 1, STATES = 1, TARGETS = 0, PERIODS = 4 };
+enum { COMMANDS = 1, STATES = 1, TARGETS = 0, PERIODS = 4 };
 
-static uint8_t image[GANTRY_IMAGE_BYTES(NU, COMMANDS, STATES, TARGETS)];
+static uint8_t image[GANTRY_IMAGE_BYTES(COMMANDS, STATES, TARGETS)];
 static uint8_t start[GANTRY_START_BYTES(COMMANDS)];
 static uint8_t answer[GANTRY_ANSWER_BYTES(COMMANDS)];
 

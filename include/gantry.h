@@ -20,23 +20,22 @@ extern "C" {
 #endif
 
 /* The sizes of the buffers. nu motors, N steps, n = nu * N commands, nx state values, nr target values (0 for a drive that
- * follows no target). */
+ * follows no target). An image has a low and a high limit for each command, that is for each motor at each step. */
 #define GANTRY_MAX_COMMANDS 16
 #define GANTRY_MAX_STATES 12
 #define GANTRY_MAX_TARGETS 4
 /* The design numbers of a sheet: one for each line after line 01, one for each word of the image after the first eight. */
-#define GANTRY_DESIGN_NUMBERS(nu, n, nx, nr) \
-    ((n) * (n) + (n) * (nx) + 2 * (nu) + 1 + (nx) + (n) * (nr) + (nr))
-#define GANTRY_IMAGE_WORDS(nu, n, nx, nr) (8 + GANTRY_DESIGN_NUMBERS(nu, n, nx, nr))
-#define GANTRY_IMAGE_BYTES(nu, n, nx, nr) (4 * (size_t)GANTRY_IMAGE_WORDS(nu, n, nx, nr))
-#define GANTRY_PAGE_BYTES(nu, n, nx, nr) (44 * (size_t)GANTRY_DESIGN_NUMBERS(nu, n, nx, nr))
+#define GANTRY_DESIGN_NUMBERS(n, nx, nr) ((n) * (n) + (n) * (nx) + 2 * (n) + 1 + (nx) + (n) * (nr) + (nr))
+#define GANTRY_IMAGE_WORDS(n, nx, nr) (8 + GANTRY_DESIGN_NUMBERS(n, nx, nr))
+#define GANTRY_IMAGE_BYTES(n, nx, nr) (4 * (size_t)GANTRY_IMAGE_WORDS(n, nx, nr))
+#define GANTRY_PAGE_BYTES(n, nx, nr) (44 * (size_t)GANTRY_DESIGN_NUMBERS(n, nx, nr))
 #define GANTRY_STATE_BYTES(nx) (4 * (size_t)(nx))
 #define GANTRY_TARGET_BYTES(nr) (4 * (size_t)(nr))
 #define GANTRY_START_BYTES(n) (4 * (size_t)(n))
 #define GANTRY_ANSWER_BYTES(n) (8 * (size_t)(n))
-/* Large enough for every image and every page: nu 4, n 16, nx 12, nr 4. */
-#define GANTRY_MAX_IMAGE_BYTES GANTRY_IMAGE_BYTES(4, GANTRY_MAX_COMMANDS, GANTRY_MAX_STATES, GANTRY_MAX_TARGETS)
-#define GANTRY_MAX_PAGE_BYTES GANTRY_PAGE_BYTES(4, GANTRY_MAX_COMMANDS, GANTRY_MAX_STATES, GANTRY_MAX_TARGETS)
+/* Large enough for every image and every page: n 16, nx 12, nr 4. */
+#define GANTRY_MAX_IMAGE_BYTES GANTRY_IMAGE_BYTES(GANTRY_MAX_COMMANDS, GANTRY_MAX_STATES, GANTRY_MAX_TARGETS)
+#define GANTRY_MAX_PAGE_BYTES GANTRY_PAGE_BYTES(GANTRY_MAX_COMMANDS, GANTRY_MAX_STATES, GANTRY_MAX_TARGETS)
 
 /* The numbers. */
 enum gantry_number {
@@ -61,7 +60,8 @@ enum gantry_number {
 
 /* Reads a design sheet and writes its image. image_len must be the image's exact length (15), which is known from the
  * sheet's first line: GANTRY_IMAGE_BYTES. Numbers: 0, 1 to 5, 7 to 12, 15.
- * An image written here is accepted by the calls below. */
+ * An image written here is accepted by the calls below. A sheet with one low and one high a motor, as it was before limits
+ * went by the step, is 2 where N is above 1, and its stored image is 6 below; with N 1 both are as they were. */
 uint32_t gantry_intake(const uint8_t *sheet, size_t sheet_len, uint8_t *image, size_t image_len);
 
 /* Reads a design sheet and writes its design page, which shows what rounding did: a line of 43 characters and byte 10 for
@@ -78,7 +78,7 @@ uint32_t gantry_cold_start(const uint8_t *image, size_t image_len, uint8_t *star
 /* Runs the image's sweeps from a start and writes 8n bytes: n commands as signed big-endian 32-bit words, then n error
  * bounds as unsigned ones, both in counts of 2^-b. State, target and start are signed big-endian 32-bit words; with nr 0
  * the target is empty. Numbers: 0, 3, 5 to 16, tested 6, 3, 6, 5, 7 to 13, 16, 14, 15.
- * With 0, each command lies within its limits, and differs from the command of the exact scheme, which rounds nothing, by
+ * With 0, each command lies within the limits of its own step, and differs from the command of the exact scheme, which rounds nothing, by
  * at most its bound. A command is again a valid start. */
 uint32_t gantry_solve(const uint8_t *image, size_t image_len, const uint8_t *state, size_t state_len,
                       const uint8_t *target, size_t target_len, const uint8_t *start, size_t start_len,
