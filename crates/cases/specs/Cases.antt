@@ -60,9 +60,9 @@ unfoldable pub following : ℕ → List ℕ
 following bound =
     wordsOut (map pos (1 ∷ 1 ∷ 1 ∷ 4 ∷ 8 ∷ 3 ∷ 1 ∷ 0 ∷ 8 ∷ 16 ∷ []) ++ (negsuc 19 ∷ map pos (20 ∷ 0 ∷ 10 ∷ []) ++ (negsuc 15 ∷ pos bound ∷ [])))
 
--- one motor, two steps that do not touch each other: step 0 has S's limits, step 1 limits of its own
-unfoldable pub easing : ℕ → ℤ → ℤ → List ℕ
-easing beta low high =
+-- one motor, two steps, and H diagonal: step 0 has S's limits, step 1 limits of its own
+unfoldable pub varying : ℕ → ℤ → ℤ → List ℕ
+varying beta low high =
     wordsOut (map pos (1 ∷ 2 ∷ 1 ∷ 4 ∷ 8 ∷ 3 ∷ 0 ∷ 0 ∷ 8 ∷ 0 ∷ 0 ∷ 8 ∷ 16 ∷ 16 ∷ []) ++ (negsuc 19 ∷ low ∷ pos 20 ∷ high ∷ map pos (beta ∷ 10 ∷ [])))
 
 -- ---- the table
@@ -125,14 +125,14 @@ table =
     ∷ pages (changed 6 0x070000401D800000000000) 263 12
     ∷ pages [] 0 4
     -- request 3: step 1 with limits −5 and 5, sweeps 1 to 3; with −1 and 2, where w holds the bound of step 1 alone
-    ∷ solves (easing 0 (negsuc 4) (pos 5)) (pos 10) [] 1 (negsuc 9 ∷ negsuc 4 ∷ []) (2 ∷ 2 ∷ [])
-    ∷ solves (easing 0 (negsuc 4) (pos 5)) (pos 10) [] 2 (negsuc 14 ∷ negsuc 4 ∷ []) (4 ∷ 4 ∷ [])
-    ∷ solves (easing 0 (negsuc 4) (pos 5)) (pos 10) [] 3 (negsuc 17 ∷ negsuc 4 ∷ []) (5 ∷ 5 ∷ [])
-    ∷ solves (easing 0 (negsuc 0) (pos 2)) (pos 10) [] 3 (negsuc 17 ∷ negsuc 0 ∷ []) (5 ∷ 3 ∷ [])
+    ∷ solves (varying 0 (negsuc 4) (pos 5)) (pos 10) [] 1 (negsuc 9 ∷ negsuc 4 ∷ []) (2 ∷ 2 ∷ [])
+    ∷ solves (varying 0 (negsuc 4) (pos 5)) (pos 10) [] 2 (negsuc 14 ∷ negsuc 4 ∷ []) (4 ∷ 4 ∷ [])
+    ∷ solves (varying 0 (negsuc 4) (pos 5)) (pos 10) [] 3 (negsuc 17 ∷ negsuc 4 ∷ []) (5 ∷ 5 ∷ [])
+    ∷ solves (varying 0 (negsuc 0) (pos 2)) (pos 10) [] 3 (negsuc 17 ∷ negsuc 0 ∷ []) (5 ∷ 3 ∷ [])
     -- by step 1 alone: 7; with β 8 counts Y is zb + w / 2, so −62 and 64 are accepted, −63 and 64 refused 12
-    ∷ numbers (easing 0 (pos 6) (pos 5)) 7
-    ∷ numbers (easing 8 (negsuc 61) (pos 64)) 0
-    ∷ numbers (easing 8 (negsuc 62) (pos 64)) 12
+    ∷ numbers (varying 0 (pos 6) (pos 5)) 7
+    ∷ numbers (varying 8 (negsuc 61) (pos 64)) 0
+    ∷ numbers (varying 8 (negsuc 62) (pos 64)) 12
     -- the page of step 1's low limit; a 05 before the last 04; the former layout, all of whose limits stand in column 0
     ∷ prints (text stepLines) 7 "04 0001 BFD4000000000000 BFD4000000000000 K"
     ∷ pages (text stepLines) 528 0

@@ -1,7 +1,7 @@
 -- Which lines due are limits. Assumes nothing.
 use mathlib.Core.Path.{_≡_, refl, sym, ap, _∙_}
 use mathlib.Core.Bool.{Bool, true, false, cond}
-use Prim.Native.Nat.{ℕ, _-_, _*_, _/_, _%_}
+use Prim.Native.Nat.{ℕ, _-_, _*_, _/_, _%_, _<_}
 use native.Mathlib.Omega.{arith}
 use lib.Dec.{ltb}
 use borrow.Author.Tests.{ltb-true, ltb-false}
@@ -67,3 +67,7 @@ module _ (z : Sizes) (i : ℕ) where
       let p = five (ltb i (n * n)) (ltb (past2 z i) (n * z .nx)) (ltb (past3 z i) n) (ltb (past4 z i) n) _ _ _ _ _ _ _ _ _
       (no-limit (ltb (past5 z i) 1) (ltb (past6 z i) (z .nx)) (ltb (past7 z i) (n * z .nr)) (ltb (past8 z i) (z .nr)) _ _ _ _ _ .1) (rw flat at h) in
       omega (arith, ltb-false i (n * n) (p .0), ltb-false (past2 z i) (n * z .nx) (p .1), ltb-false (past3 z i) n (p .2), ltb-true (past4 z i) n (p .3))
+
+-- "all 04 still come first"
+pub lows-first : (z : Sizes) (i j : ℕ) → dueAt z i .kind ≡ 4 → dueAt z j .kind ≡ 5 → i < j
+lows-first z i j a b = omega (arith, low-of z i a, high-of z j b)
