@@ -13,7 +13,7 @@ use Rattle.image.specs.Sizes.{commandCount, Sound}
 use Rattle.frame.specs.Frame.{Table, table, limitTable, lineOf, dueIn, due, dueAt, total, lowBase}
 use Rattle.frame.proofs.Limits.{low-due}
 use Rattle.former.specs.Former as former
-use Rattle.former.specs.Relaid.{Parting}
+use Rattle.former.specs.Relaid.{FirstDifference}
 use Rattle.former.proofs.Calls.{count-is}
 
 -- with N above 1 a motor has two commands or more
@@ -55,14 +55,14 @@ module _ (z : Sizes) where
   abbrev limits : ℕ → Table
   limits kind = limitTable kind (z .nu) (z .steps)
 
-  abbrev stood : ℕ → Table
-  stood kind = table kind (z .nu) 1
+  abbrev former-limits : ℕ → Table
+  former-limits kind = table kind (z .nu) 1
 
   abbrev from-limits : List Table
   from-limits = limits 4 ∷ limits 5 ∷ behind-limits
 
-  abbrev from-stood : List Table
-  from-stood = stood 4 ∷ stood 5 ∷ behind-limits
+  abbrev from-former : List Table
+  from-former = former-limits 4 ∷ former-limits 5 ∷ behind-limits
 
   -- the two before them
   abbrev costs : Table
@@ -72,11 +72,11 @@ module _ (z : Sizes) where
   gains = table 3 n (z .nx)
 
   -- where m lines from the first 04 on are the same, all before them are
-  front-same : (m : ℕ) → ((j : ℕ) → j < m → dueIn from-limits j ≡ dueIn from-stood j) → (i : ℕ) → i < lowBase z + m → dueAt z i ≡ former.dueAt z i
+  front-same : (m : ℕ) → ((j : ℕ) → j < m → dueIn from-limits j ≡ dueIn from-former j) → (i : ℕ) → i < lowBase z + m → dueAt z i ≡ former.dueAt z i
   unfolding dueAt former.dueAt lowBase
   front-same m same i h =
-      same-tables costs costs (gains ∷ from-limits) (gains ∷ from-stood) (n * z .nx + m) refl (λ j l. refl)
-      (same-tables gains gains from-limits from-stood m refl (λ j l. refl) same) i (omega arith)
+      same-tables costs costs (gains ∷ from-limits) (gains ∷ from-former) (n * z .nx + m) refl (λ j l. refl)
+      (same-tables gains gains from-limits from-former m refl (λ j l. refl) same) i (omega arith)
 
   -- ---- N is 1
   module _ (one : z .steps ≡ 1) where
@@ -87,37 +87,37 @@ module _ (z : Sizes) where
     count : z .nu * z .steps ≡ z .nu * 1
     count = ap (λ (k : ℕ). z .nu * k) one
 
-    step-one : (kind i : ℕ) → i < z .nu * 1 → lineOf (limits kind) i ≡ lineOf (stood kind) i
+    step-one : (kind i : ℕ) → i < z .nu * 1 → lineOf (limits kind) i ≡ lineOf (former-limits kind) i
     step-one kind i h = step-zero kind (z .nu) (z .steps) i (omega arith)
 
     pub due-one : (i : ℕ) → dueAt z i ≡ former.dueAt z i
     due-one i =
         front-same (i + 1)
-        (λ j l. same-tables (limits 4) (stood 4) (limits 5 ∷ behind-limits) (stood 5 ∷ behind-limits) (j + 1) count (step-one 4)
-        (λ k m. same-tables (limits 5) (stood 5) behind-limits behind-limits (k + 1) count (step-one 5) (λ _ _. refl) k (omega arith)) j (omega arith))
+        (λ j l. same-tables (limits 4) (former-limits 4) (limits 5 ∷ behind-limits) (former-limits 5 ∷ behind-limits) (j + 1) count (step-one 4)
+        (λ k m. same-tables (limits 5) (former-limits 5) behind-limits behind-limits (k + 1) count (step-one 5) (λ _ _. refl) k (omega arith)) j (omega arith))
         i (omega arith)
 
   -- ---- N is above 1
   module _ (o : Sound z) (more : 1 < z .steps) where
     -- the lows of step 0 stand as they stood, and all lines before them
-    pub due-before : (i : ℕ) → i < lowBase z + z .nu → dueAt z i ≡ former.dueAt z i
+    due-before : (i : ℕ) → i < lowBase z + z .nu → dueAt z i ≡ former.dueAt z i
     due-before =
         front-same (z .nu)
-        (λ j l. in-front (limits 4) (limits 5 ∷ behind-limits) j (omega (arith, two-commands z more)) ∙ step-zero 4 (z .nu) (z .steps) j l ∙ sym (in-front (stood 4) (stood 5 ∷ behind-limits) j (omega arith)))
+        (λ j l. in-front (limits 4) (limits 5 ∷ behind-limits) j (omega (arith, two-commands z more)) ∙ step-zero 4 (z .nu) (z .steps) j l ∙ sym (in-front (former-limits 4) (former-limits 5 ∷ behind-limits) j (omega arith)))
 
-    -- then the layouts part
-    five-stood : former.dueAt z (lowBase z + z .nu) ≡ due 5 0 0
+    -- and there a 05 was due, where a 04 is
+    five-was-due : former.dueAt z (lowBase z + z .nu) ≡ due 5 0 0
     unfolding former.dueAt lowBase
-    five-stood =
-        behind costs (gains ∷ from-stood) (n * n + n * z .nx + z .nu) (n * z .nx + z .nu) (omega arith)
-        ∙ behind gains from-stood (n * z .nx + z .nu) (z .nu) refl
-        ∙ behind (stood 4) (stood 5 ∷ behind-limits) (z .nu) 0 (omega arith)
-        ∙ in-front (stood 5) behind-limits 0 (omega (arith, o .nu-low))
+    five-was-due =
+        behind costs (gains ∷ from-former) (n * n + n * z .nx + z .nu) (n * z .nx + z .nu) (omega arith)
+        ∙ behind gains from-former (n * z .nx + z .nu) (z .nu) refl
+        ∙ behind (former-limits 4) (former-limits 5 ∷ behind-limits) (z .nu) 0 (omega arith)
+        ∙ in-front (former-limits 5) behind-limits 0 (omega (arith, o .nu-low))
 
-    four-due : dueAt z (lowBase z + z .nu) ≡ due 4 0 1
-    four-due =
+    four-is-due : dueAt z (lowBase z + z .nu) ≡ due 4 0 1
+    four-is-due =
         let e : lowBase z + z .nu - lowBase z ≡ z .nu = omega arith in
         low-due z (lowBase z + z .nu) (omega arith, omega (arith, two-commands z more, o .nu-low)) ∙ rw (e, mod-self (z .nu), div-self (o .nu-low))
 
-    pub parting : Parting z (lowBase z + z .nu)
-    parting = record { stood = five-stood; due-here = four-due }
+    pub first-difference : FirstDifference z (lowBase z + z .nu)
+    first-difference = record { before = due-before; was-due = five-was-due; is-due = four-is-due }

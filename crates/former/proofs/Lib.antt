@@ -3,4 +3,4 @@ pub mod Calls
 pub mod Due
 pub mod Sheets
 pub mod Labels
-pub mod Parting
+pub mod MoreSteps

@@ -1,6 +1,6 @@
 -- "A sheet until now accepted in the former layout is 2 when N is above 1, and reads as before when N is 1", as statements: the definitions
 -- of today against the former ones. Definitions only.
-use Prim.Native.Nat.{ℕ}
+use Prim.Native.Nat.{ℕ, _<_}
 use mathlib.Core.Path.{_≡_}
 use mathlib.Core.List.{List}
 use Rattle.hex.specs.Hex.{hexAt}
@@ -44,7 +44,8 @@ pub record NowSix (image state target start : List ℕ) (room : ℕ) : Type 0 wh
   pub cold-number : coldNumber image room ≡ 6
   pub number : solveNumber image state target start room ≡ 6
 
--- where the layouts part: the former first 05 stands where the low of motor 0 at step 1 is due
-pub record Parting (z : Sizes) (i : ℕ) : Type 0 where
-  pub stood : former.dueAt z i ≡ due 5 0 0
-  pub due-here : dueAt z i ≡ due 4 0 1
+-- the first line that differs: the former first 05 stands where the low of motor 0 at step 1 is due
+pub record FirstDifference (z : Sizes) (i : ℕ) : Type 0 where
+  pub before : (k : ℕ) → k < i → dueAt z k ≡ former.dueAt z k
+  pub was-due : former.dueAt z i ≡ due 5 0 0
+  pub is-due : dueAt z i ≡ due 4 0 1

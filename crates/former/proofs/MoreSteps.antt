@@ -35,7 +35,7 @@ use Rattle.design_page.specs.Page.{pageNumber}
 use Rattle.label_text.specs.Label.{labelText}
 use Rattle.former.specs.Former as former
 use Rattle.former.specs.Relaid.{stepsByte, NowSix, NowTwo}
-use Rattle.former.proofs.Due.{due-before, parting, two-commands}
+use Rattle.former.proofs.Due.{first-difference, two-commands}
 
 -- ---- a line
 -- a line without a fault where a 05 was due has another kind than the 04 that is
@@ -63,11 +63,11 @@ module _ (z : Sizes) (o : Sound z) (more : 1 < z .steps) (s : List ℕ) where
 
   fault-before : (i : ℕ) → i < at → lineFault z s i ≡ former.lineFault z s i
   unfolding lineFault former.lineFault lineValue former.lineValue
-  fault-before i h = rw (due-before z o more i h)
+  fault-before i h = rw (first-difference z o more .before i h)
 
   fault-at : former.lineFault z s at ≡ 0 → lineFault z s at ≡ 2
   unfolding lineFault former.lineFault lineValue former.lineValue
-  fault-at h = let p = parting z o more in rw (p .due-here) (wrong-kind z (lineAt s (23 * (at + 1))) (rw (p .stood) at h))
+  fault-at h = let p = first-difference z o more in rw (p .is-due) (wrong-kind z (lineAt s (23 * (at + 1))) (rw (p .was-due) at h))
 
   lines-two : former.linesNumber z s ≡ 0 → linesNumber z s ≡ 2
   lines-two h =
