@@ -95,26 +95,26 @@ pair-none true true u v e h = let x : _≡_ {A = ℕ} 0 1 = cc in let y : ⊥ = 
 pair-none false true u v e h = absurd (false≢true h)
 
 -- the words of a command's limits, from what rounding them inward gives
-module _ (z : Sizes) (s : List ℕ) (i : ℕ) (ws : List ℤ) (ls : List Float) (o : Sound z) (r : ReadTo z s i ws ls) (k5 : dueAt z i .kind ≡ 5) (x : Float) (g : lineValue z s i ≡ Double x) (row : ℕ) (is : row ≡ i - lowBase z - commandCount z) where
-  lower : convert roundUp (z .b) (z .w) (getD ls row nan) ≡ Word (lineWord z s (i - commandCount z))
+module _ (z : Sizes) (s : List ℕ) (i : ℕ) (ws : List ℤ) (ls : List Float) (o : Sound z) (r : ReadTo z s i ws ls) (k5 : dueAt z i .kind ≡ 5) (x : Float) (g : lineValue z s i ≡ Double x) (command : ℕ) (is : command ≡ i - lowBase z - commandCount z) where
+  lower : convert roundUp (z .b) (z .w) (getD ls command nan) ≡ Word (lineWord z s (i - commandCount z))
   lower =
       let h = high-of z i k5 in
-      let e : lowBase z + row ≡ i - commandCount z = omega arith in
-      let d : getD ls row nan ≡ lineDouble z s (i - commandCount z) = r .kept row (omega arith) (omega (arith, o .n-low)) ∙ ap (lineDouble z s) e in
+      let e : lowBase z + command ≡ i - commandCount z = omega arith in
+      let d : getD ls command nan ≡ lineDouble z s (i - commandCount z) = r .kept command (omega arith) (omega (arith, o .n-low)) ∙ ap (lineDouble z s) e in
       rw d (low-word z s (i - commandCount z) (omega arith) (r .passed (i - commandCount z) (omega (arith, o .n-low))))
 
   abbrev limits : Limits
-  limits = record { low = getD ls row nan; high = x }
+  limits = record { low = getD ls command nan; high = x }
 
   pub pair-words : (a b : ℤ) → Pair a b ≡ convertLimits (z .b) (z .w) limits → (lineWord z s (i - commandCount z) ≡ a) × (lineWord z s i ≡ b) × (lineFault z s i ≡ 0)
   pair-words a b e =
-      let p = pair-both (accepted roundUp (z .b) (z .w) (getD ls row nan)) (accepted roundDown (z .b) (z .w) x) e in
+      let p = pair-both (accepted roundUp (z .b) (z .w) (getD ls command nan)) (accepted roundDown (z .b) (z .w) x) e in
       let w = fault-word z s i x (rounded roundDown (z .b) x) g (kind-5 z (dueAt z i .kind) x k5 ∙ rw (p .1)) in
-      (convert-word roundUp (z .b) (z .w) (getD ls row nan) lower .1 ∙ sym (p .2), w .1 ∙ sym (p .3), w .0)
+      (convert-word roundUp (z .b) (z .w) (getD ls command nan) lower .1 ∙ sym (p .2), w .1 ∙ sym (p .3), w .0)
 
   pub pair-fault : NoPair ≡ convertLimits (z .b) (z .w) limits → lineFault z s i ≡ 5
   pair-fault e =
-      let q = pair-none (accepted roundUp (z .b) (z .w) (getD ls row nan)) (accepted roundDown (z .b) (z .w) x) _ _ e (convert-word roundUp (z .b) (z .w) (getD ls row nan) lower .0) in
+      let q = pair-none (accepted roundUp (z .b) (z .w) (getD ls command nan)) (accepted roundDown (z .b) (z .w) x) _ _ e (convert-word roundUp (z .b) (z .w) (getD ls command nan) lower .0) in
       fault-refused z s i x g (kind-5 z (dueAt z i .kind) x k5 ∙ rw q)
 
 -- ---- the line is read
@@ -143,12 +143,12 @@ module _ (z : Sizes) (s : List ℕ) (i : ℕ) (ws : List ℤ) (ls : List Float) 
     kept = λ j g h. r .kept j g (before (lowBase z + j) i h (λ (q : lowBase z + j ≡ i). n4 (ap (λ (d : Due). d .kind) (low-due z i (omega arith)))));
   }
 
-  pub step-low : (x : Float) (row : ℕ) → lineDouble z s i ≡ x → dueAt z i .kind ≡ 4 → row ≡ i - lowBase z → ReadTo z s (i + 1) ws (set ls row x)
-  step-low x row e k4 er =
+  pub step-low : (x : Float) (command : ℕ) → lineDouble z s i ≡ x → dueAt z i .kind ≡ 4 → command ≡ i - lowBase z → ReadTo z s (i + 1) ws (set ls command x)
+  step-low x command e k4 er =
       let low : isLow z i = low-of z i k4 in
       record {
         size = r .size;
-        room = length-set ls row x ∙ r .room;
+        room = length-set ls command x ∙ r .room;
         passed = below-more (λ (k : ℕ). lineFault z s k ≡ 0) i (r .passed) f;
         head = r .head;
         single = λ k h n. r .single k (before k i h (λ (q : k ≡ i). n (subst (isLow z) (sym q) low))) n;
@@ -156,10 +156,10 @@ module _ (z : Sizes) (s : List ℕ) (i : ℕ) (ws : List ℤ) (ls : List Float) 
         kept = λ j g h.
             ⊎-elim
             (λ (q : lowBase z + j ≡ i).
-            let same : j ≡ row = omega arith in
-            let inside : row < length ls = omega (arith, r .room, o .n-high) in
-            rw (same, getD-set-same ls row x nil inside) (sym e ∙ ap (lineDouble z s) (omega arith)))
-            (λ (l : lowBase z + j < i). getD-set-other ls row j x nil (λ (q : j ≡ row). omega arith) ∙ r .kept j g l)
+            let same : j ≡ command = omega arith in
+            let inside : command < length ls = omega (arith, r .room, o .n-high) in
+            rw (same, getD-set-same ls command x nil inside) (sym e ∙ ap (lineDouble z s) (omega arith)))
+            (λ (l : lowBase z + j < i). getD-set-other ls command j x nil (λ (q : j ≡ command). omega arith) ∙ r .kept j g l)
             (eq-or-lt-of-le (le-of-suc-le-suc (subst (λ (m : ℕ). lowBase z + j < m) (add-one i) h)));
       }
 

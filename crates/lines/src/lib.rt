@@ -28,7 +28,7 @@ pub fn take_line(words: &mut [i64; 569], lows: &mut [f64; 16], s: &[u8], z: Size
     let d = frame::due_at(z, i);
     let x = match frame::value_of(d, line::line_from(s, 23 * (i + 1))) {
         Value::Double(x) => x,
-        Value::Fault(n) => return n,
+        Value::Fault(fault) => return fault,
     };
     if d.kind == 5 {
         let low = lows[command_of(z, d)];

@@ -108,14 +108,14 @@ value-of-requires c κs = search needs
 enum-known-x : tie.Need-enum-known-x
 enum-known-x c = search needs
 
-enum-known-n : tie.Need-enum-known-n
-enum-known-n c = search needs
+enum-known-fault : tie.Need-enum-known-fault
+enum-known-fault c = search needs
 
 returns : tie.Need-returns
 returns c =
     let k = c .before .before .before in
     let u = k .before .before .before .before .before in
-    let g = value-is (u .args .z) (u .args .s .now) (u .args .i) _ _ _ (k .value-of .ensures) (k .before .before .due-at .ensures) (k .before .line-from .ensures .0) ∙ c .before .n .given .1 in
+    let g = value-is (u .args .z) (u .args .s .now) (u .args .i) _ _ _ (k .value-of .ensures) (k .before .before .due-at .ensures) (k .before .line-from .ensures .0) ∙ c .before .fault .given .1 in
     (value-fault (u .args .z) (u .args .s .now) (u .args .i) _ g, λ q. absurd (fault-none (u .args .z) (u .args .s .now) (u .args .i) _ g q))
 
 command-of-requires : tie.Need-command-of-requires
@@ -260,7 +260,7 @@ take-line-spec =
     line-from-requires
     value-of-requires
     enum-known-x
-    enum-known-n
+    enum-known-fault
     returns
     command-of-requires
     mul-low
