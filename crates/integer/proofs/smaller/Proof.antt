@@ -1,7 +1,7 @@
--- `rows::smaller` meets its contract. Assumes nothing.
+-- `integer::smaller` meets its contract. Assumes nothing.
 use native.Mathlib.Omega.{arith}
-use Rattle.rows.proofs.smaller.Statement.{statement}
-use Rattle.rows.proofs.smaller.Tie as tie
+use Rattle.integer.proofs.smaller.Statement.{statement}
+use Rattle.integer.proofs.smaller.Tie as tie
 
 returns : tie.Need-returns
 returns c = omega (arith, c .if1 .taken)
