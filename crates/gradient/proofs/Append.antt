@@ -2,14 +2,16 @@
 use mathlib.Core.Path.{_≡_, refl, sym, ap, _∙_}
 use mathlib.Core.Bool.{Bool, _&&_, and-assoc}
 use mathlib.Core.List.{List, [], _∷_, _++_}
-use Prim.Native.Nat.{ℕ, _+_}
+use Prim.Native.Nat.{ℕ, _+_, _*_, _≤_}
 use native.Mathlib.Omega.{arith}
-use lib.IntN.{ℤ, _+ℤ_, +ℤ-idl, +ℤ-assoc}
-use lib.ListN.{length}
-use Rattle.gradient.specs.Vector.{zipWith, total, sum, All1, nil1, cons1}
-use Rattle.gradient.specs.Scheme.{terms}
-use Rattle.gradient.specs.Bounds.{ceilTerms}
+use lib.IntN.{ℤ, pos, natAbs, _*ℤ_}
+use lib.ListN.{length, getD, List·getD-append}
+use lib.Seq.{getD-append-add}
+use Rattle.gradient.specs.Vector.{zipWith, sum, All1, nil1, cons1}
+use Rattle.gradient.specs.Index.{sumZ}
+use Rattle.gradient.specs.Bounds.{weight}
 use Rattle.gradient.specs.Demand.{every2}
+use Rattle.gradient.proofs.Index.{productsAt, sumZ-cong, sumZ-from}
 
 -- ---- place by place
 pub all1-append : {A : Type 0} {P : A → Type 0} {l m : List A} → All1 P l → All1 P m → All1 P (l ++ m)
@@ -34,18 +36,23 @@ module _ {A B : Type 0} where
       ap (λ (b : Bool). f x y && b) (every2-append f xs us ys vs (omega arith)) ∙ sym (and-assoc (f x y) (every2 f xs ys) (every2 f us vs))
 
 -- ---- sums
-total-append : (l m : List ℤ) → total (l ++ m) ≡ total l +ℤ total m
-total-append [] m = sym (+ℤ-idl (total m))
-total-append (a ∷ l) m = ap (λ (z : ℤ). a +ℤ z) (total-append l m) ∙ sym (+ℤ-assoc a (total l) (total m))
-
 sum-append : (l m : List ℕ) → sum (l ++ m) ≡ sum l + sum m
 sum-append [] m = omega arith
 sum-append (a ∷ l) m = omega (arith, sum-append l m)
 
--- of rounded products, and of those rounded up
-pub terms-append : (f : ℕ) (xs us ys vs : List ℤ) → length xs ≡ length ys → total (terms f (xs ++ us) (ys ++ vs)) ≡ total (terms f xs ys) +ℤ total (terms f us vs)
-terms-append f xs us ys vs e = ap total (zip-append _ xs us ys vs e) ∙ total-append (terms f xs ys) (terms f us vs)
+pub weight-append : (xs us : List ℤ) (ys vs : List ℕ) → length xs ≡ length ys → weight (xs ++ us) (ys ++ vs) ≡ weight xs ys + weight us vs
+unfolding weight
+weight-append xs us ys vs e =
+    ap sum (zip-append _ xs us ys vs e) ∙ sum-append (zipWith (λ (a : ℤ) (b : ℕ). natAbs a * b) xs ys) (zipWith (λ (a : ℤ) (b : ℕ). natAbs a * b) us vs)
 
-pub ceilTerms-append : (f : ℕ) (xs us : List ℤ) (ys vs : List ℕ) → length xs ≡ length ys
-    → sum (ceilTerms f (xs ++ us) (ys ++ vs)) ≡ sum (ceilTerms f xs ys) + sum (ceilTerms f us vs)
-ceilTerms-append f xs us ys vs e = ap sum (zip-append _ xs us ys vs e) ∙ sum-append (ceilTerms f xs ys) (ceilTerms f us vs)
+-- a sum of neighbouring products of the first row, and of the second
+module _ (xs us ys vs : List ℤ) (n : ℕ) (h : length xs ≡ n) (k : length ys ≡ n) where
+  pub sum-front : (a m : ℕ) → a + m ≤ n → sumZ (productsAt xs ys) a m ≡ sumZ (productsAt (xs ++ us) (ys ++ vs)) a m
+  sum-front a m l =
+      sumZ-cong _ _ a m (λ i o u. rw (List·getD-append xs us (pos 0) i (omega arith), List·getD-append ys vs (pos 0) i (omega arith)))
+
+  pub sum-behind : (a m : ℕ) → sumZ (productsAt us vs) a m ≡ sumZ (productsAt (xs ++ us) (ys ++ vs)) (n + a) m
+  sum-behind a m = sumZ-cong _ _ a m (λ i o u. sym (behind i)) ∙ sumZ-from (productsAt (xs ++ us) (ys ++ vs)) n a m
+    where
+      behind : (i : ℕ) → productsAt (xs ++ us) (ys ++ vs) (n + i) ≡ productsAt us vs i
+      behind i = rw (← (getD-append-add xs us i (pos 0)), ← (getD-append-add ys vs i (pos 0)), h, k)
