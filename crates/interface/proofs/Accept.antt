@@ -20,7 +20,7 @@ use Rattle.gradient.specs.Index.{allTo}
 use Rattle.gradient.specs.Problem.{Command, F}
 use Rattle.gradient.specs.Bounds.{rangeP, rangeY}
 use Rattle.gradient.specs.Sizes.{Sized, SizedCommand}
-use Rattle.gradient.specs.Demand.{InWord, ordered, headroom}
+use Rattle.gradient.specs.Demand.{InWord, formatted, ordered, headroom}
 use Rattle.gradient.proofs.Index.{tab-length, tab-at, tab-all1, at-all1, map-at}
 use Rattle.gradient.proofs.Append.{all1-append}
 use Rattle.gradient.proofs.Tests.{of-true, at-ordered, at-headroom, RangesFit, all-at}
@@ -31,7 +31,7 @@ use Rattle.image.specs.Sizes.{commandCount, inputCount, bodyCount, sound, Sound
 use Rattle.image.specs.Layout.{sizesOf, problemAt, problemOf, commandAt, entryAt, entryOf, costAt, gainAt, gainRow, gainsOf, momentumAt, boundAt, boundsFrom, boundsOf}
 use Rattle.image.specs.Checks.{headNumber, bodyNumber, wordTest, boundTest}
 use Rattle.image.proofs.Ordering.{passed, both, none}
-use Rattle.image.proofs.Sized.{sound-facts}
+use Rattle.image.proofs.Sized.{sound-facts, sound-format}
 use Rattle.image.proofs.Reading.{cost-word, gain-word, lower-word, upper-word, bound-word}
 use Rattle.interface.specs.Tables.{orderTest, symmetryTest, marginTest, totalTest, momentumRange, momentumRatio, pointTest, rowTest, othersAt, marginAt, tablesNumber, imageNumber}
 use Rattle.interface.specs.Accepted.{Accepted}
@@ -122,7 +122,7 @@ module _ (z : Sizes) (s : List ℕ) where
   unfolding problemAt
   bounds-length = omega (arith, length-append (boundsOf State z s) (boundsOf Target z s), bounds-count State, bounds-count Target)
 
-  gains-length : (i : ℕ) → length (commandAt z s i .gains) ≡ z .nx + z .nr
+  pub gains-length : (i : ℕ) → length (commandAt z s i .gains) ≡ z .nx + z .nr
   unfolding commandAt
   gains-length i = omega (arith, length-append (gainsOf State z s i) (gainsOf Target z s i), gains-count State i, gains-count Target i)
 
@@ -207,6 +207,10 @@ module _ (z : Sizes) (s : List ℕ) (o : Sound z) (p : Passed z s) where
           at-all1 (boundsOf v z s) 0
           (λ j l. let k : j < inputCount v z = rw (bounds-count z s v) at l in rw (input-bound-at z s v j k) (bound-word z s o (p .words) v j k))
 
+  problem-formatted : formatted (problemAt z s) ≡ true
+  unfolding formatted problemAt
+  problem-formatted = sound-format z o
+
   problem-ordered : ordered (problemAt z s) ≡ true
   unfolding commandAt
   problem-ordered = at-ordered (problemAt z s) (commandAt z s 0) (λ i h. order i (rw (commands-length z s) at h))
@@ -230,6 +234,7 @@ accepted s e =
     record {
       whole = w;
       sized = problem-sized (sizesOf s) s (w .sizes) p;
+      format = of-true (problem-formatted (sizesOf s) s (w .sizes) p);
       order = of-true (problem-ordered (sizesOf s) s (w .sizes) p);
       room = of-true (problem-headroom (sizesOf s) s (w .sizes) p);
     }

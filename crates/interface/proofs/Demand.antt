@@ -71,7 +71,7 @@ cold-accepted image room e =
 module _ (image state target start : List ℕ) (s : Solvable image state target start) where
   pub all-claims : Demand3 (problemOf image) (inputsOf (sizesOf image) state target) (startOf (sizesOf image) start)
   all-claims =
-      theorem.demand3 (problemOf image) (inputsOf (sizesOf image) state target) (startOf (sizesOf image) start) (s .accepted .order) (s .accepted .room) (s .inputs) (s .starts)
+      theorem.demand3 (problemOf image) (inputsOf (sizesOf image) state target) (startOf (sizesOf image) start) (s .accepted .format) (s .accepted .order) (s .accepted .room) (s .inputs) (s .starts)
 
   pub claims : SolveClaim image state target start
   unfolding SolveClaim Demand3

@@ -5,7 +5,7 @@ use Prim.Native.Nat.{ℕ, _*_}
 use lib.Dec.{T}
 use lib.ListN.{length}
 use Rattle.gradient.specs.Sizes.{Sized}
-use Rattle.gradient.specs.Demand.{ordered, headroom, inputsWithin, startWithin}
+use Rattle.gradient.specs.Demand.{formatted, ordered, headroom, inputsWithin, startWithin}
 use Rattle.image.specs.Sizes.{Whole, commandCount}
 use Rattle.image.specs.Layout.{sizesOf, problemOf}
 use Rattle.interface.specs.Calls.{inputsOf, startOf}
@@ -14,6 +14,7 @@ use Rattle.interface.specs.Calls.{inputsOf, startOf}
 pub record Accepted (image : List ℕ) : Type 0 where
   pub whole : Whole (sizesOf image) image
   pub sized : Sized (problemOf image)
+  pub format : T (formatted (problemOf image))
   pub order : T (ordered (problemOf image))
   pub room : T (headroom (problemOf image))
 
