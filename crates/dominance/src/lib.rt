@@ -23,7 +23,8 @@ fn others(image: &[u8], z: Sizes, i: usize) -> i64
 {
     let n = z.nu * z.steps;
     let at = image::cost_offset(z, i);
-    row_sums::sum_terms(image, &image[at..], z, Term::Other, i, n) as i64
+    // 16 magnitudes are at most 2^35, so this cap is never met
+    row_sums::sum_terms(image, &image[at..], z, Term::Other, i, n, 1 << 35) as i64
 }
 
 // Entry j of row i of H.

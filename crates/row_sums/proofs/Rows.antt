@@ -8,14 +8,14 @@ use lib.IntN.{pos}
 use lib.ListN.{length, getD, length-drop}
 use borrow.Author.Tests.{leb-true}
 use Rattle.integer.proofs.Tests.{both}
+use Rattle.integer.specs.Round.{ceil}
 use Rattle.word.specs.Format.{top}
 use Rattle.word.proofs.Format.{top-high}
-use Rattle.gradient.specs.Vector.{sum}
 use Rattle.gradient.specs.Index.{sumN}
 use Rattle.gradient.specs.Problem.{F}
-use Rattle.gradient.specs.Bounds.{ceilTerms, rangeP, rangeY, rangeA, rangeB}
-use Rattle.gradient.proofs.Index.{sumN-cong, ceilTerms-sum, rangeA-sum, tab-at}
-use Rattle.gradient.proofs.Append.{ceilTerms-append}
+use Rattle.gradient.specs.Bounds.{weight, rangeP, rangeY, rangeA, rangeB}
+use Rattle.gradient.proofs.Index.{sumN-cong, weight-sum, rangeA-sum, tab-at}
+use Rattle.gradient.proofs.Append.{weight-append}
 use Rattle.gradient.proofs.Tests.{all-at}
 use Rattle.image.specs.declared.Sizes.{Sizes}
 use Rattle.image.specs.declared.Input.{Input}
@@ -42,18 +42,18 @@ term-end (GainRange State) z s row i j r h =
 term-end (GainRange Target) z s row i j r h =
     omega (arith, ap length (r .part), length-drop (gainOffset Target z i) s, r .whole .size, row-end i (commandCount z) (z .nr) (r .index))
 
--- ---- how many terms, how large they are, and how large their sum
+-- ---- how many terms, and how large they are
 pub count-most : (t : Term) (z : Sizes) → Sound z → termCount t z ≤ 16
 unfolding termCount
 count-most Other z h = h .n-high
 count-most Range z h = h .n-high
 count-most (GainRange v) z h = omega (arith, input-most v z h)
 
-pub sum-most : (t : Term) (j : ℕ) → j < 16 → j * termMost t + termMost t ≤ 2 ^ 62 + 2 ^ 52
+pub term-most : (t : Term) → termMost t ≤ 2 ^ 62 + 2 ^ 51
 unfolding termMost
-sum-most Other j h = omega arith
-sum-most Range j h = omega arith
-sum-most (GainRange v) j h = omega arith
+term-most Other = omega arith
+term-most Range = omega arith
+term-most (GainRange v) = omega arith
 
 -- Y is in the word
 pub point-most : (z : Sizes) (s : List ℕ) (j : ℕ) → Sound z → PointsPass z s → j < commandCount z → rangeY (problemAt z s) (commandAt z s j) ≤ 2 ^ 31
@@ -64,7 +64,7 @@ point-most z s j sized points h =
     let t = both (leb (rangeP p r) (top (z .w))) (leb (rangeY p r) (top (z .w))) (all-at (pointTest z s) (commandCount z) j h points) in
     omega (arith, leb-true (rangeY p r) (top (z .w)) (t .1), top-high (z .w) (sized .w-high))
 
--- ---- the sums of a row as sums of its terms
+-- ---- the sums of a row as sums of its terms, A and B divided once
 module _ (z : Sizes) (s : List ℕ) (i : ℕ) where
   pub others-terms : othersAt z s i ≡ sumN (termAt Other z s i) (commandCount z)
   unfolding othersAt termAt
@@ -78,21 +78,22 @@ module _ (z : Sizes) (s : List ℕ) (i : ℕ) where
   unfolding F problemAt
   F-is = refl
 
-  pub range-terms : rangeA (problemAt z s) (commandAt z s i) ≡ sumN (termAt Range z s i) (commandCount z)
+  pub range-terms : rangeA (problemAt z s) (commandAt z s i) ≡ ceil (sumN (termAt Range z s i) (commandCount z)) (2 ^ z .b)
   unfolding termAt
   range-terms =
       rangeA-sum (problemAt z s) (commandAt z s i) (commandAt z s i) (commandCount z) (commands-length z s) (row-length z s i)
-      ∙ sumN-cong _ _ (commandCount z) (λ j l. rw (entry-is j l, command-at z s (commandAt z s i) j l, F-is))
+      ∙ rw F-is (ap (λ (k : ℕ). ceil k (2 ^ z .b)) (sumN-cong _ _ (commandCount z) (λ j l. rw (entry-is j l, command-at z s (commandAt z s i) j l))))
 
-  -- the part of B that an input adds, and B
-  input-terms : (v : Input) → sum (ceilTerms (2 ^ z .b) (gainsOf v z s i) (boundsOf v z s)) ≡ sumN (termAt (GainRange v) z s i) (inputCount v z)
+  -- what an input adds to B's sum, and B
+  input-terms : (v : Input) → weight (gainsOf v z s i) (boundsOf v z s) ≡ sumN (termAt (GainRange v) z s i) (inputCount v z)
   unfolding termAt
   input-terms v =
-      ceilTerms-sum (2 ^ z .b) (gainsOf v z s i) (boundsOf v z s) (inputCount v z) (gains-count z s v i) (bounds-count z s v)
+      weight-sum (gainsOf v z s i) (boundsOf v z s) (inputCount v z) (gains-count z s v i) (bounds-count z s v)
       ∙ sumN-cong _ _ (inputCount v z) (λ j l. rw (gain-at z s v i j l, input-bound-at z s v j l))
 
-  pub gain-terms : rangeB (problemAt z s) (commandAt z s i) ≡ sumN (termAt (GainRange State) z s i) (z .nx) + sumN (termAt (GainRange Target) z s i) (z .nr)
+  pub gain-terms : rangeB (problemAt z s) (commandAt z s i) ≡ ceil (sumN (termAt (GainRange State) z s i) (z .nx) + sumN (termAt (GainRange Target) z s i) (z .nr)) (2 ^ z .b)
   unfolding rangeB F problemAt commandAt
   gain-terms =
-      ceilTerms-append (2 ^ z .b) (gainsOf State z s i) (gainsOf Target z s i) (boundsOf State z s) (boundsOf Target z s) (gains-count z s State i ∙ sym (bounds-count z s State))
-      ∙ rw (input-terms State, input-terms Target)
+      ap (λ (k : ℕ). ceil k (2 ^ z .b))
+      (weight-append (gainsOf State z s i) (gainsOf Target z s i) (boundsOf State z s) (boundsOf Target z s) (gains-count z s State i ∙ sym (bounds-count z s State))
+      ∙ rw (input-terms State, input-terms Target))

@@ -6,7 +6,6 @@ use mathlib.Core.Bool.{true, cond}
 use mathlib.Core.List.{List}
 use lib.Dec.{eqb}
 use lib.IntN.{ℤ, natAbs}
-use Rattle.integer.specs.Round.{ceil}
 use Rattle.gradient.specs.Bounds.{rangeY}
 use Rattle.gradient.specs.Index.{allTo}
 use Rattle.image.specs.declared.Sizes.{Sizes}
@@ -16,11 +15,11 @@ use Rattle.interface.specs.Tables.{pointTest}
 use Rattle.row_sums.specs.declared.Term.{Term}
 use Rattle.row_sums.specs.declared.Term.the-variants.{Other, Range, GainRange}
 
--- term j of row i: a magnitude off the diagonal, "|M| × Y / 2^b", "|Φ| × state limit / 2^b" or the target's
+-- term j of row i: a magnitude off the diagonal, "|M| × Y", "|Φ| × state limit" or the target's
 unfoldable pub termAt : Term → Sizes → List ℕ → ℕ → ℕ → ℕ
 termAt Other z s i j = cond (eqb i j) 0 (natAbs (costAt z s i j))
-termAt Range z s i j = ceil (natAbs (entryAt z s i j) * rangeY (problemAt z s) (commandAt z s j)) (2 ^ z .b)
-termAt (GainRange v) z s i j = ceil (natAbs (gainAt v z s i j) * natAbs (boundAt v z s j)) (2 ^ z .b)
+termAt Range z s i j = natAbs (entryAt z s i j) * rangeY (problemAt z s) (commandAt z s j)
+termAt (GainRange v) z s i j = natAbs (gainAt v z s i j) * natAbs (boundAt v z s j)
 
 -- the row of the image that the terms are of, and how many they are
 unfoldable pub termRow : Term → Sizes → List ℕ → ℕ → List ℕ
@@ -33,18 +32,16 @@ termCount Other z = commandCount z
 termCount Range z = commandCount z
 termCount (GainRange v) z = inputCount v z
 
--- how large a term is: a magnitude of a word; a product of two, less b ≥ 4 bits
+-- how large a term is: a magnitude of a word; a product of two, where an entry of M may be 2^b more than a word
 unfoldable pub termMost : Term → ℕ
 termMost Other = 2 ^ 31
-termMost Range = 2 ^ 58 + 2 ^ 48
-termMost (GainRange v) = 2 ^ 58 + 2 ^ 48
+termMost Range = 2 ^ 62 + 2 ^ 51
+termMost (GainRange v) = 2 ^ 62 + 2 ^ 51
 
 -- an entry of M or of the gains times a bound in the word: the product fits 64 bits
-pub record Scalable (a : ℤ) (x b : ℕ) : Type 0 where
+pub record Scalable (a : ℤ) (x : ℕ) : Type 0 where
   pub factor : natAbs a ≤ 2 ^ 31 + 2 ^ 20
   pub most : x ≤ 2 ^ 31
-  pub b-low : 4 ≤ b
-  pub b-high : b ≤ 20
 
 -- every Y is in the word
 abbrev pub PointsPass : Sizes → List ℕ → Type 0

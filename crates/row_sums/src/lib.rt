@@ -1,11 +1,10 @@
-// The sums of a row: of the magnitudes off the diagonal in 9 and 10, and A and B of 12.
+// The sums of a row: of the magnitudes off the diagonal in 9 and 10, and those of A and B of 12 before they are divided.
 ghost use mathlib.Core.Path.{_≡_};
 ghost use mathlib.Core.Bool.{cond};
-ghost use Prim.Native.Nat.{_+_, _*_, _^_, _≤_, _<_};
+ghost use Prim.Native.Nat.{_+_, _*_, _^_, _≤_, _<_, min};
 ghost use lib.Dec.{eqb};
 ghost use lib.IntN.{natAbs};
 ghost use lib.ListN.{length};
-ghost use Rattle.integer.specs.Round.{ceil};
 ghost use Rattle.word.specs.Word.{wordAt};
 ghost use Rattle.gradient.specs.Index.{sumN};
 ghost use Rattle.row_sums.specs.Terms.{termAt, termCount, termMost, Scalable, TermsReady};
@@ -19,12 +18,12 @@ pub enum Term {
     GainRange(Input),
 }
 
-// |a| × x / 2^b, rounded up.
-fn scaled(a: i64, x: u64, b: u32) -> u64
-    requires { ⌜ Scalable a x b ⌝ }
-    ensures { λ r. ⌜ (r ≡ ceil (natAbs a * x) (2 ^ b)) × (r ≤ 2 ^ 58 + 2 ^ 48) ⌝ }
+// |a| × x.
+fn scaled(a: i64, x: u64) -> u64
+    requires { ⌜ Scalable a x ⌝ }
+    ensures { λ r. ⌜ (r ≡ natAbs a * x) × (r ≤ 2 ^ 62 + 2 ^ 51) ⌝ }
 {
-    integer::ceil_div(integer::magnitude(a) * x, b)
+    integer::magnitude(a) * x
 }
 
 // The magnitude of entry j of row i of H, 0 on the diagonal.
@@ -48,24 +47,31 @@ fn term_at(image: &[u8], row: &[u8], z: Sizes, t: Term, i: usize, j: usize) -> u
         Term::Range => scaled(
             image::entry(row, z.b, i, j),
             magnitudes::range_y(image, z, j),
-            z.b,
         ),
         Term::GainRange(v) => {
             let bound = magnitudes::size(image::bound_at(image, z, v, j));
-            scaled(word::word_at(row, 4 * j), bound, z.b)
+            scaled(word::word_at(row, 4 * j), bound)
         }
     }
 }
 
-// The sum of the terms of row i.
-pub fn sum_terms(image: &[u8], row: &[u8], z: Sizes, t: Term, i: usize, count: usize) -> u64
-    requires { ⌜ TermsReady t z (now image) (now row) i × (count ≡ termCount t z) ⌝ }
-    ensures { λ r. ⌜ (r ≡ sumN (termAt t z (now (image .entry)) i) count) × (r ≤ count * termMost t) ⌝ }
+// The sum of the terms of row i, capped: with 16 terms it may pass 64 bits. Also, how large it is uncapped.
+pub fn sum_terms(
+    image: &[u8],
+    row: &[u8],
+    z: Sizes,
+    t: Term,
+    i: usize,
+    count: usize,
+    cap: u64,
+) -> u64
+    requires { ⌜ (TermsReady t z (now image) (now row) i × (count ≡ termCount t z)) × (cap ≤ 2 ^ 52) ⌝ }
+    ensures { λ r. ⌜ (r ≡ min (sumN (termAt t z (now (image .entry)) i) count) cap) × (sumN (termAt t z (now (image .entry)) i) count ≤ count * termMost t) ⌝ }
 {
     let mut s: u64 = 0;
     let mut j = 0;
     while j < count {
-        s += term_at(image, row, z, t, i, j);
+        s = integer::smaller(s + term_at(image, row, z, t, i, j), cap);
         j += 1;
     }
     s

@@ -1,11 +1,10 @@
 -- `headroom::gain_range` meets its contract. Assumes nothing.
-use native.Mathlib.Omega.{arith}
 use mathlib.Core.Path.{ap, _∙_}
+use Prim.Native.Nat.{ℕ, min}
 use Rattle.word.proofs.Buffer.{rest-from}
 use Rattle.gradient.specs.Index.{sumN}
-use Rattle.row_sums.specs.Terms.{termAt, termRow, termCount, termMost, TermRoom}
+use Rattle.row_sums.specs.Terms.{termAt, termRow, termCount, TermRoom}
 use Rattle.row_sums.specs.declared.Term.the-variants.{GainRange}
-use Rattle.row_sums.proofs.Rows.{count-most}
 use borrow.Author.Needs.{needs}
 use Rattle.headroom.proofs.gain_range.Statement.{statement}
 use Rattle.headroom.proofs.gain_range.Tie as tie
@@ -29,15 +28,12 @@ sum-terms-requires : tie.Need-sum-terms-requires
 unfolding termRow termCount TermRoom
 sum-terms-requires c κs =
     let a = c .before .before .before .before in
-    (record { whole = a .pre .0; index = a .pre .1; part = rest-from (a .args .image .now) _ _ (c .before .before .gain-offset .ensures .0); room = tt }, c .before .input-count .ensures)
+    ((record { whole = a .pre .0 .0; index = a .pre .0 .1; part = rest-from (a .args .image .now) _ _ (c .before .before .gain-offset .ensures .0); room = tt }, c .before .input-count .ensures), a .pre .1)
 
 returns : tie.Need-returns
-unfolding termCount termMost
 returns c =
-    let a = c .before .before .before .before .before in
-    let n = c .before .before .input-count in
-    let t = c .sum-terms in
-    (t .ensures .0 ∙ ap (sumN (termAt (GainRange (a .args .v)) (a .args .z) (a .args .image .now) (a .args .i))) (n .ensures), omega (arith, t .ensures .1, n .ensures, count-most (GainRange (a .args .v)) (a .args .z) (a .pre .0 .sizes)))
+    let a = c .before .before .before .before .before .args in
+    c .sum-terms .ensures .0 ∙ ap (λ (n : ℕ). min (sumN (termAt (GainRange (a .v)) (a .z) (a .image .now) (a .i)) n) (a .cap)) (c .before .before .input-count .ensures)
 
 pub gain-range-spec : {M : Type 1} → statement M
 gain-range-spec =

@@ -62,8 +62,6 @@ scaled-requires c κs =
     rw (back (x .result) (x .ok)) (record {
       factor = x .ensures .1;
       most = rw (c .range-y .ensures) (point-most (a .args .z) (a .args .image .now) (a .args .j) (r .0 .whole .sizes) (r .0 .room) (r .1));
-      b-low = r .0 .whole .sizes .b-low;
-      b-high = r .0 .whole .sizes .b-high;
     })
 
 enum-known-t : tie.Need-enum-known-t
@@ -87,12 +85,9 @@ word-at-requires c κs = long (c .before .before .before .before .before .before
 scaled-requires-2 : tie.Need-scaled-requires-2
 scaled-requires-2 c κs =
     let w = c .word-at in
-    let a = c .before .before .before .before .before .before .before .before in
     rw (back (w .result) (w .ok)) (record {
       factor = omega (arith, natAbs-le (w .result) (w .ensures .1 .sfits));
       most = c .before .size .ensures .1;
-      b-low = a .pre .0 .whole .sizes .b-low;
-      b-high = a .pre .0 .whole .sizes .b-high;
     })
 
 returns : tie.Need-returns
