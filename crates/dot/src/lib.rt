@@ -1,68 +1,70 @@
-// The sums of a row: of its rounded products with a vector, and of its magnitudes times error bounds.
+// The sums of a row: of its products with a vector, undivided, and of its magnitudes times error bounds.
 ghost use mathlib.Core.Path.{_≡_};
-ghost use Rattle.dot.specs.Sums.{productAt, inputTerm, Sums, Summable, RowSummable, weightTo, Weighable};
+ghost use Prim.Native.Nat.{_+_};
+ghost use Rattle.gradient.specs.Index.{sumZ};
+ghost use Rattle.dot.specs.Sums.{productAt, inputTerm, Summable, RowSummable, weightTo, Weighable};
 
-// A product, rounded toward minus infinity.
-fn term(r: &[i64; 16], y: &[i64; 16], a: usize, b: u32) -> i64
-    requires { ⌜ Summable (now r) (now y) b a 1 ⌝ }
-    ensures { λ x. ⌜ Sums (productAt (now (r .entry)) (now (y .entry)) b) a 1 x ⌝ }
+// A product.
+fn term(r: &[i64; 16], y: &[i64; 16], a: usize) -> i64
+    requires { ⌜ Summable (now r) (now y) (a + 1) ⌝ }
+    ensures { λ x. ⌜ x ≡ sumZ (productAt (now (r .entry)) (now (y .entry))) a 1 ⌝ }
 {
-    integer::floor_div(r[a] * y[a], b)
+    r[a] * y[a]
 }
 
 // Two terms, two pairs and two fours: the ends of the recursion, so that it makes fewer calls.
-fn pair(r: &[i64; 16], y: &[i64; 16], a: usize, b: u32) -> i64
-    requires { ⌜ Summable (now r) (now y) b a 2 ⌝ }
-    ensures { λ x. ⌜ Sums (productAt (now (r .entry)) (now (y .entry)) b) a 2 x ⌝ }
+fn pair(r: &[i64; 16], y: &[i64; 16], a: usize) -> i64
+    requires { ⌜ Summable (now r) (now y) (a + 2) ⌝ }
+    ensures { λ x. ⌜ x ≡ sumZ (productAt (now (r .entry)) (now (y .entry))) a 2 ⌝ }
 {
-    term(r, y, a, b) + term(r, y, a + 1, b)
+    term(r, y, a) + term(r, y, a + 1)
 }
 
-fn four(r: &[i64; 16], y: &[i64; 16], a: usize, b: u32) -> i64
-    requires { ⌜ Summable (now r) (now y) b a 4 ⌝ }
-    ensures { λ x. ⌜ Sums (productAt (now (r .entry)) (now (y .entry)) b) a 4 x ⌝ }
+fn four(r: &[i64; 16], y: &[i64; 16], a: usize) -> i64
+    requires { ⌜ Summable (now r) (now y) (a + 4) ⌝ }
+    ensures { λ x. ⌜ x ≡ sumZ (productAt (now (r .entry)) (now (y .entry))) a 4 ⌝ }
 {
-    pair(r, y, a, b) + pair(r, y, a + 2, b)
+    pair(r, y, a) + pair(r, y, a + 2)
 }
 
-fn eight(r: &[i64; 16], y: &[i64; 16], a: usize, b: u32) -> i64
-    requires { ⌜ Summable (now r) (now y) b a 8 ⌝ }
-    ensures { λ x. ⌜ Sums (productAt (now (r .entry)) (now (y .entry)) b) a 8 x ⌝ }
+fn eight(r: &[i64; 16], y: &[i64; 16], a: usize) -> i64
+    requires { ⌜ Summable (now r) (now y) (a + 8) ⌝ }
+    ensures { λ x. ⌜ x ≡ sumZ (productAt (now (r .entry)) (now (y .entry))) a 8 ⌝ }
 {
-    four(r, y, a, b) + four(r, y, a + 4, b)
+    four(r, y, a) + four(r, y, a + 4)
 }
 
 // The sum of n terms from a on, by halves, the first half the larger.
-pub fn dot(r: &[i64; 16], y: &[i64; 16], a: usize, n: usize, b: u32) -> i64
-    requires { ⌜ Summable (now r) (now y) b a n ⌝ }
-    ensures { λ x. ⌜ Sums (productAt (now (r .entry)) (now (y .entry)) b) a n x ⌝ }
+pub fn dot(r: &[i64; 16], y: &[i64; 16], a: usize, n: usize) -> i64
+    requires { ⌜ Summable (now r) (now y) (a + n) ⌝ }
+    ensures { λ x. ⌜ x ≡ sumZ (productAt (now (r .entry)) (now (y .entry))) a n ⌝ }
 {
     if n == 0 {
         return 0;
     }
     if n == 1 {
-        return term(r, y, a, b);
+        return term(r, y, a);
     }
     if n == 2 {
-        return pair(r, y, a, b);
+        return pair(r, y, a);
     }
     if n == 4 {
-        return four(r, y, a, b);
+        return four(r, y, a);
     }
     if n == 8 {
-        return eight(r, y, a, b);
+        return eight(r, y, a);
     }
     let h = n - n / 2;
-    dot(r, y, a, h, b) + dot(r, y, a + h, n - h, b)
+    dot(r, y, a, h) + dot(r, y, a + h, n - h)
 }
 
 // The sum of a row of the image, which starts at the part's front, times x.
-pub fn row_sum(row: &[u8], x: &[i64; 16], nx: usize, b: u32) -> i64
-    requires { ⌜ RowSummable (now row) (now x) b nx ⌝ }
-    ensures { λ r. ⌜ Sums (inputTerm (now (row .entry)) (now (x .entry)) b) 0 nx r ⌝ }
+pub fn row_sum(row: &[u8], x: &[i64; 16], n: usize) -> i64
+    requires { ⌜ RowSummable (now row) (now x) n ⌝ }
+    ensures { λ r. ⌜ r ≡ sumZ (inputTerm (now (row .entry)) (now (x .entry))) 0 n ⌝ }
 {
-    let r = array::words_of(row, nx);
-    dot(&r, x, 0, nx, b)
+    let r = array::words_of(row, n);
+    dot(&r, x, 0, n)
 }
 
 // The magnitudes of a row of M, each times its error bound of y.

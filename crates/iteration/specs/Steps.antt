@@ -7,7 +7,7 @@ use Rattle.integer.specs.Round.{ceil}
 use Rattle.gradient.specs.Scheme.{product}
 use Rattle.array.specs.Arrays.{Filled, WordsTo, RowsTo, NatsTo}
 use Rattle.rows.specs.declared.Terms.{Terms}
-use Rattle.rows.specs.Rows.{zAt, eAt, Fitting, WeightsTo}
+use Rattle.rows.specs.Rows.{zAt, eAt, Fitting, SumsTo, WeightsTo}
 use Rattle.iteration.specs.declared.State.{State}
 
 -- "new y = rounded((2^b + β) × new z) − rounded(β × old z)"
@@ -27,6 +27,7 @@ pub record Ready (m : List (List ℤ)) (t : Terms) (s : State) : Type 0 where
   pub rows : RowsTo (t .n) m
   pub commands : WordsTo (t .n) (s .z)
   pub points : WordsTo (t .n) (s .y)
+  pub sums : SumsTo (t .n) m (s .y)
   pub errors : NatsTo (t .n) (s .e)
   pub weights : WeightsTo (t .n) m (s .q)
 

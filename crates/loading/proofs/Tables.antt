@@ -1,50 +1,90 @@
 -- The arrays that are made of an image are those of its problem. Assumes nothing.
-use mathlib.Core.Path.{_≡_, sym, subst, _∙_}
+use mathlib.Core.Path.{_≡_, sym, ap, subst, _∙_}
 use mathlib.Core.List.{List, []}
-use Prim.Native.Nat.{ℕ, _*_, _-_, _^_, _<_}
+use Prim.Native.Nat.{ℕ, _+_, _*_, _-_, _^_, _≤_, _<_}
+use native.Mathlib.Nat.{add-zero, zero-add}
 use native.Mathlib.Omega.{arith}
-use lib.ListN.{length, getD}
-use lib.IntN.{ℤ, pos, _+ℤ_}
-use Rattle.word.specs.Word.{wordAt, wordsAt}
-use Rattle.word.proofs.Words.{length-words-at, getD-words-front}
+use lib.ListN.{length, length-append, getD}
+use lib.IntN.{ℤ, pos, natAbs, _+ℤ_}
+use Rattle.integer.specs.Round.{floor}
+use Rattle.word.specs.Word.{wordAt}
+use Rattle.word.proofs.Words.{getD-words-front}
 use Rattle.gradient.specs.Index.{sumZ}
 use Rattle.gradient.specs.Problem.{Command, Problem, F}
-use Rattle.gradient.specs.Vector.{total}
-use Rattle.gradient.specs.Scheme.{terms, linear}
-use Rattle.gradient.specs.Bounds.{slack, width}
-use Rattle.gradient.proofs.Index.{sumZ-cong, terms-sum, tab-at}
-use Rattle.gradient.proofs.Append.{terms-append}
+use Rattle.gradient.specs.Scheme.{products, linear}
+use Rattle.gradient.specs.Bounds.{width}
+use Rattle.gradient.specs.Demand.{RunningSums}
+use Rattle.gradient.proofs.Index.{productsAt, sumZ-cong, sumZ-split, products-sum, running-sum, tab-at}
+use Rattle.gradient.proofs.Append.{sum-front, sum-behind}
 use Rattle.image.specs.declared.Sizes.{Sizes}
 use Rattle.image.specs.declared.Input.{Input}
 use Rattle.image.specs.declared.Input.the-variants.{State, Target}
 use Rattle.image.specs.Sizes.{commandCount, inputCount}
 use Rattle.image.specs.Layout.{sizesOf, gainRow, gainsOf, entryAt, commandAt, problemAt, problemOf}
 use Rattle.interface.specs.Calls.{valuesOf, inputsOf}
-use Rattle.interface.proofs.Accept.{commands-length, bounds-length, gains-count, gain-at}
+use Rattle.interface.proofs.Accept.{commands-length, gains-count, gains-length, gain-at}
 use Rattle.interface.proofs.Demand.{values-count}
 use Rattle.array.specs.Arrays.{Filled, Tabled}
-use Rattle.dot.specs.Sums.{inputTerm}
+use Rattle.dot.specs.Sums.{inputTerm, RunsTo}
 use Rattle.rows.specs.declared.Terms.{Terms}
 use Rattle.loading.specs.Tables.{linearAt, TermsOf}
 
 -- ---- the linear term
--- the sum of a row of an input's table
+-- a sum of neighbouring terms of an input's row
 part-is : (v : Input) (z : Sizes) (image values : List ℕ) (x : List ℤ) (i : ℕ) → Filled (pos 0) (inputCount v z) (λ (j : ℕ). wordAt values (4 * j)) x
-    → sumZ (inputTerm (gainRow v z image i) x (z .b)) 0 (inputCount v z) ≡ total (terms (2 ^ z .b) (gainsOf v z image i) (valuesOf v z values))
+    → (a m : ℕ) → a + m ≤ inputCount v z → sumZ (inputTerm (gainRow v z image i) x) a m ≡ sumZ (productsAt (gainsOf v z image i) (valuesOf v z values)) a m
 unfolding inputTerm valuesOf
-part-is v z image values x i h =
+part-is v z image values x i f a m h =
     let n = inputCount v z in
-    sumZ-cong _ _ 0 n (λ j l u. let k : j < n = omega arith in rw (gain-at z image v i j k, getD-words-front values n j k, h .each j k))
-    ∙ sym (terms-sum (2 ^ z .b) (gainsOf v z image i) (wordsAt values 0 n) n (gains-count z image v i) (length-words-at values 0 n))
+    sumZ-cong _ _ a m (λ j l u. let k : j < n = omega arith in rw (gain-at z image v i j k, getD-words-front values n j k, f .each j k))
 
--- of the state's and of the target's
-pub linear-is : (z : Sizes) (image state target : List ℕ) (x y : List ℤ) (i : ℕ)
-    → Filled (pos 0) (z .nx) (λ (j : ℕ). wordAt state (4 * j)) x → Filled (pos 0) (z .nr) (λ (j : ℕ). wordAt target (4 * j)) y
-    → sumZ (inputTerm (gainRow State z image i) x (z .b)) 0 (z .nx) +ℤ sumZ (inputTerm (gainRow Target z image i) y (z .b)) 0 (z .nr) ≡ linearAt z image state target i
-unfolding linear inputsOf commandAt problemAt F
-linear-is z image state target x y i h k =
-    rw (part-is State z image state x i h, part-is Target z image target y i k)
-    (sym (terms-append (2 ^ z .b) (gainsOf State z image i) (gainsOf Target z image i) (valuesOf State z state) (valuesOf Target z target) (gains-count z image State i ∙ sym (values-count State z state))))
+-- the state's terms stand in front, the target's behind them, in the one row of the command
+module _ (z : Sizes) (image state target : List ℕ) (i : ℕ) (x y : List ℤ)
+    (fx : Filled (pos 0) (z .nx) (λ (j : ℕ). wordAt state (4 * j)) x) (fy : Filled (pos 0) (z .nr) (λ (j : ℕ). wordAt target (4 * j)) y) where
+  abbrev products-at : ℕ → ℤ
+  products-at = productsAt (commandAt z image i .gains) (inputsOf z state target)
+
+  state-sum : (a m : ℕ) → a + m ≤ z .nx → sumZ (inputTerm (gainRow State z image i) x) a m ≡ sumZ products-at a m
+  unfolding commandAt inputsOf
+  state-sum a m h =
+      part-is State z image state x i fx a m h
+      ∙ sum-front (gainsOf State z image i) (gainsOf Target z image i) (valuesOf State z state) (valuesOf Target z target) (z .nx) (gains-count z image State i) (values-count State z state) a m h
+
+  target-sum : (a m : ℕ) → a + m ≤ z .nr → sumZ (inputTerm (gainRow Target z image i) y) a m ≡ sumZ products-at (z .nx + a) m
+  unfolding commandAt inputsOf
+  target-sum a m h =
+      part-is Target z image target y i fy a m h
+      ∙ sum-behind (gainsOf State z image i) (gainsOf Target z image i) (valuesOf State z state) (valuesOf Target z target) (z .nx) (gains-count z image State i) (values-count State z state) a m
+
+  whole-sum : sumZ (inputTerm (gainRow State z image i) x) 0 (z .nx) +ℤ sumZ (inputTerm (gainRow Target z image i) y) 0 (z .nr) ≡ sumZ products-at 0 (z .nx + z .nr)
+  whole-sum =
+      rw (state-sum 0 (z .nx) (omega arith), target-sum 0 (z .nr) (omega arith), add-zero (z .nx))
+      (sym (rw (zero-add (z .nx)) at (sumZ-split products-at 0 (z .nx) (z .nr))))
+
+  inputs-length : length (inputsOf z state target) ≡ z .nx + z .nr
+  unfolding inputsOf
+  inputs-length = omega (arith, length-append (valuesOf State z state) (valuesOf Target z target), values-count State z state, values-count Target z target)
+
+  -- the whole sum, divided once
+  pub linear-is : floor (sumZ (inputTerm (gainRow State z image i) x) 0 (z .nx) +ℤ sumZ (inputTerm (gainRow Target z image i) y) 0 (z .nr)) (2 ^ z .b) ≡ linearAt z image state target i
+  unfolding linear problemAt F
+  linear-is =
+      ap (λ (s : ℤ). floor s (2 ^ z .b))
+      (whole-sum ∙ sym (products-sum (commandAt z image i .gains) (inputsOf z state target) (z .nx + z .nr) (gains-length z image i) inputs-length))
+
+  -- the sums that the code takes are running sums
+  module _ (w : RunningSums (products (commandAt z image i .gains) (inputsOf z state target))) where
+    within : (a m : ℕ) → a + m ≤ z .nx + z .nr → natAbs (sumZ products-at a m) < 2 ^ 63
+    within a m h = running-sum (commandAt z image i .gains) (inputsOf z state target) w a m (omega (arith, gains-length z image i)) (omega (arith, inputs-length))
+
+    pub state-runs : RunsTo (z .nx) (inputTerm (gainRow State z image i) x)
+    state-runs a m h = rw (state-sum a m h) (within a m (omega arith))
+
+    pub target-runs : RunsTo (z .nr) (inputTerm (gainRow Target z image i) y)
+    target-runs a m h = rw (target-sum a m h) (within (z .nx + a) m (omega arith))
+
+    pub whole-within : natAbs (sumZ (inputTerm (gainRow State z image i) x) 0 (z .nx) +ℤ sumZ (inputTerm (gainRow Target z image i) y) 0 (z .nr)) < 2 ^ 63
+    whole-within = rw whole-sum (within 0 (z .nx + z .nr) (omega arith))
 
 -- ---- the arrays of a problem
 pub nothing : Command
@@ -58,7 +98,6 @@ pub record Represents (p : Problem) (inputs : List ℤ) (m : List (List ℤ)) (t
   pub n-is : t .n ≡ length (p .commands)
   pub b-is : t .b ≡ p .b
   pub momentum-is : t .momentum ≡ p .momentum
-  pub slack-is : t .slack ≡ slack p
   pub rows : (i : ℕ) → i < length (p .commands) → (j : ℕ) → j < length (p .commands) → getD (getD m i []) j (pos 0) ≡ getD (command p i .row) j (pos 0)
   pub lowers : (i : ℕ) → i < length (p .commands) → getD (t .lower) i (pos 0) ≡ command p i .lower
   pub uppers : (i : ℕ) → i < length (p .commands) → getD (t .upper) i (pos 0) ≡ command p i .upper
@@ -76,12 +115,11 @@ module _ (z : Sizes) (image : List ℕ) where
     below h = rw (commands-length z image) at h
 
     represents-at : Represents (problemAt z image) (inputsOf z state target) m t
-    unfolding problemAt commandAt slack
+    unfolding problemAt commandAt
     represents-at = record {
       n-is = of .n-is ∙ sym (commands-length z image);
       b-is = of .b-is;
       momentum-is = of .momentum-is;
-      slack-is = of .slack-is ∙ (rw (commands-length z image, bounds-length z image));
       rows = λ i h j l. rw (command-is i h) (table i (below h) .each j (below l) ∙ sym (tab-at (entryAt z image i) (commandCount z) j (pos 0) (below l)));
       lowers = λ i h. rw (command-is i h) (of .lowers .each i (below h));
       uppers = λ i h. rw (command-is i h) (of .uppers .each i (below h));

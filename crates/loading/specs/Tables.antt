@@ -1,12 +1,14 @@
 -- What an image's tables are as arrays. Assumes nothing.
 use mathlib.Core.Path.{_≡_}
 use mathlib.Core.List.{List}
-use Prim.Native.Nat.{ℕ, _+_, max}
+use Prim.Native.Nat.{ℕ, _*_, _<_}
 use lib.IntN.{ℤ, pos, natAbs}
-use Rattle.gradient.specs.Scheme.{linear}
+use lib.ListN.{length}
+use Rattle.gradient.specs.Scheme.{products, linear}
 use Rattle.gradient.specs.Bounds.{width}
+use Rattle.gradient.specs.Demand.{RunningSums}
 use Rattle.image.specs.declared.Sizes.{Sizes}
-use Rattle.image.specs.Sizes.{commandCount}
+use Rattle.image.specs.Sizes.{Whole, commandCount}
 use Rattle.image.specs.Layout.{lowerAt, upperAt, momentumAt, commandAt, problemAt}
 use Rattle.interface.specs.Calls.{inputsOf}
 use Rattle.array.specs.Arrays.{Filled}
@@ -26,6 +28,13 @@ pub record LimitsOf (z : Sizes) (image : List ℕ) (r : Limits) : Type 0 where
   pub uppers : Filled (pos 0) (commandCount z) (upperAt z image) (r .upper)
   pub widths : Filled 0 (commandCount z) (widthAt z image) (r .width)
 
+-- what the linear term asks: that the undivided sums of h stay within 64 bits, as demand 3 says of them
+pub record Loadable (z : Sizes) (image state target : List ℕ) : Type 0 where
+  pub whole : Whole z image
+  pub state-size : length state ≡ 4 * z .nx
+  pub target-size : length target ≡ 4 * z .nr
+  pub sums : (i : ℕ) → i < commandCount z → RunningSums (products (commandAt z image i .gains) (inputsOf z state target))
+
 -- all that stays the same over the iterations, but for M
 pub record TermsOf (z : Sizes) (image state target : List ℕ) (t : Terms) : Type 0 where
   pub lowers : Filled (pos 0) (commandCount z) (lowerAt z image) (t .lower)
@@ -33,6 +42,5 @@ pub record TermsOf (z : Sizes) (image state target : List ℕ) (t : Terms) : Typ
   pub widths : Filled 0 (commandCount z) (widthAt z image) (t .width)
   pub linears : Filled (pos 0) (commandCount z) (linearAt z image state target) (t .linear)
   pub momentum-is : t .momentum ≡ natAbs (momentumAt z image)
-  pub slack-is : t .slack ≡ max (commandCount z) (z .nx + z .nr)
   pub n-is : t .n ≡ commandCount z
   pub b-is : t .b ≡ z .b

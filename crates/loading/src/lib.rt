@@ -1,13 +1,14 @@
 // The tables of an accepted image as arrays: M, and all else that stays the same over the iterations of a solve.
 ghost use mathlib.Core.Path.{_≡_};
-ghost use Prim.Native.Nat.{_*_, _≤_, _<_, max};
+ghost use Prim.Native.Nat.{_*_, _≤_, _<_};
 ghost use lib.ListN.{length};
 ghost use lib.IntN.{pos};
 ghost use Rattle.image.specs.Sizes.{Whole, commandCount, inputCount};
 ghost use Rattle.image.specs.Layout.{gainRow, entryOf, entryAt};
 ghost use Rattle.array.specs.Arrays.{Filled, Tabled, WordsTo};
-ghost use Rattle.dot.specs.Sums.{inputTerm, Sums};
-ghost use Rattle.loading.specs.Tables.{linearAt, LimitsOf, TermsOf};
+ghost use Rattle.gradient.specs.Index.{sumZ};
+ghost use Rattle.dot.specs.Sums.{inputTerm, RunsTo};
+ghost use Rattle.loading.specs.Tables.{linearAt, LimitsOf, Loadable, TermsOf};
 use image::Input;
 use image::Sizes;
 use rows::Terms;
@@ -75,19 +76,19 @@ fn limits_of(image: &[u8], z: Sizes) -> Limits
     }
 }
 
-// Row i of an input's table times its values x.
+// Row i of an input's table times its values x, undivided.
 fn gain_sum(image: &[u8], x: &[i64; 16], z: Sizes, v: Input, i: usize) -> i64
-    requires { ⌜ (Whole z (now image) × (i < commandCount z)) × WordsTo (inputCount v z) (now x) ⌝ }
-    ensures { λ r. ⌜ Sums (inputTerm (gainRow v z (now (image .entry)) i) (now (x .entry)) (z .b)) 0 (inputCount v z) r ⌝ }
+    requires { ⌜ (Whole z (now image) × (i < commandCount z)) × (WordsTo (inputCount v z) (now x) × RunsTo (inputCount v z) (inputTerm (gainRow v z (now image) i) (now x))) ⌝ }
+    ensures { λ r. ⌜ r ≡ sumZ (inputTerm (gainRow v z (now (image .entry)) i) (now (x .entry))) 0 (inputCount v z) ⌝ }
 {
     let at = image::gain_offset(z, v, i);
     let count = image::input_count(z, v);
-    dot::row_sum(&image[at..], x, count, z.b)
+    dot::row_sum(&image[at..], x, count)
 }
 
-// The linear term of each command.
+// The linear term of each command: one sum over state and target, divided once.
 fn linear_terms(image: &[u8], state: &[u8], target: &[u8], z: Sizes) -> [i64; 16]
-    requires { ⌜ Whole z (now image) × ((length (now state) ≡ 4 * z .nx) × (length (now target) ≡ 4 * z .nr)) ⌝ }
+    requires { ⌜ Loadable z (now image) (now state) (now target) ⌝ }
     ensures { λ r. ⌜ Filled (pos 0) (commandCount z) (linearAt z (now (image .entry)) (now (state .entry)) (now (target .entry))) r ⌝ }
 {
     let n = z.nu * z.steps;
@@ -96,25 +97,16 @@ fn linear_terms(image: &[u8], state: &[u8], target: &[u8], z: Sizes) -> [i64; 16
     let mut r = array::blank();
     let mut i = 0;
     while i < n {
-        r[i] = gain_sum(image, &x, z, Input::State, i) + gain_sum(image, &y, z, Input::Target, i);
+        let s = gain_sum(image, &x, z, Input::State, i) + gain_sum(image, &y, z, Input::Target, i);
+        r[i] = integer::floor_div(s, z.b);
         i += 1;
     }
     r
 }
 
-// The larger of two sizes.
-fn larger(a: usize, b: usize) -> u64
-    ensures { λ r. ⌜ r ≡ max a b ⌝ }
-{
-    if a < b {
-        return b as u64;
-    }
-    a as u64
-}
-
 // All that stays the same over the iterations, but for M.
 pub fn terms_of(image: &[u8], state: &[u8], target: &[u8], z: Sizes) -> Terms
-    requires { ⌜ Whole z (now image) × ((length (now state) ≡ 4 * z .nx) × (length (now target) ≡ 4 * z .nr)) ⌝ }
+    requires { ⌜ Loadable z (now image) (now state) (now target) ⌝ }
     ensures { λ r. ⌜ TermsOf z (now (image .entry)) (now (state .entry)) (now (target .entry)) r ⌝ }
 {
     let n = z.nu * z.steps;
@@ -124,14 +116,12 @@ pub fn terms_of(image: &[u8], state: &[u8], target: &[u8], z: Sizes) -> Terms
     let width = l.width;
     let linear = linear_terms(image, state, target, z);
     let momentum = integer::magnitude(image::momentum_at(image, z));
-    let slack = larger(n, z.nx + z.nr);
     Terms {
         lower,
         upper,
         linear,
         width,
         momentum,
-        slack,
         n,
         b: z.b,
     }

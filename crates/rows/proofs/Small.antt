@@ -1,16 +1,26 @@
 -- What the rows of M give is small. Assumes nothing.
 use mathlib.Core.List.{List}
-use Prim.Native.Nat.{ℕ, _≤_}
+use Prim.Native.Nat.{ℕ, _^_, _≤_, _<_}
+use native.Mathlib.Nat.{mul-le-mul-right}
 use native.Mathlib.Omega.{arith}
 use lib.ListN.{getD}
 use lib.IntN.{ℤ, pos, natAbs}
+use lib.Pow.{pow-pos, pow-mono}
 use Rattle.integer.specs.Parts.{int}
-use Rattle.integer.specs.Round.{clamp}
+use Rattle.integer.specs.Round.{floor, ceil, clamp}
 use Rattle.integer.proofs.Parts.{abs!, abs-both, whole}
+use Rattle.integer.proofs.Floor.{floor-abs, ceil-least}
 use Rattle.integer.proofs.Clamping.{Clamped, raised, lowered, kept, clamped}
 use Rattle.array.specs.Arrays.{Filled, WordsTo, NatsTo}
 use Rattle.rows.specs.declared.Terms.{Terms}
 use Rattle.rows.specs.Rows.{unclampedAt, zAt, eAt, Fitting}
+
+-- a sum in 64 bits, divided
+pub divided-size : (s : ℤ) (b : ℕ) → natAbs s < 2 ^ 63 → 4 ≤ b → natAbs (floor s (2 ^ b)) ≤ 2 ^ 59
+divided-size s b h k =
+    let c : ceil (2 ^ 63) (2 ^ b) ≤ 2 ^ 59 = ceil-least (pow-pos b) (mul-le-mul-right {m = 2 ^ 4} (2 ^ 59) (pow-mono k)) in
+    let l : natAbs s ≤ 2 ^ 63 = omega arith in
+    omega (arith, floor-abs s (pow-pos b) l)
 
 -- a clamped number is no larger than the limits
 pub clamp-most : (lower upper t : ℤ) {k : ℕ} → natAbs lower ≤ k → natAbs upper ≤ k → natAbs (clamp lower upper t) ≤ k

@@ -43,7 +43,7 @@ module _ {image state target start : List ℕ} (ok : Solvable image state target
   unfolding commandsAfter Demand3
   commands-fit i h =
       word-fits (problemOf image) (ok .accepted .sized) _
-      (all1-at (demand3 (problemOf image) (inputsOf (sizesOf image) state target) (startOf (sizesOf image) start) (ok .accepted .order) (ok .accepted .room) (ok .inputs) (ok .starts) k .inRange k (omega arith) .z-word) (pos 0) i h)
+      (all1-at (demand3 (problemOf image) (inputsOf (sizesOf image) state target) (startOf (sizesOf image) start) (ok .accepted .format) (ok .accepted .order) (ok .accepted .room) (ok .inputs) (ok .starts) k .inRange k (omega arith) .z-word) (pos 0) i h)
 
   module _ (s : State) (at : ReachedOf image state target start k s) (n : ℕ) (e : n ≡ commandCount (sizesOf image)) where
     pub few : n ≤ 16

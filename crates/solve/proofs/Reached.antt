@@ -1,22 +1,23 @@
 -- From the start on, an iteration on arrays is one of the problem that they hold, and demand 3 gives what it asks. Assumes nothing.
-use mathlib.Core.Path.{_≡_, sym, ap, _∙_}
+use mathlib.Core.Path.{_≡_, sym, ap, subst, _∙_}
 use mathlib.Core.List.{List, [], map}
-use Prim.Native.Nat.{ℕ, suc, _*_, _≤_, _<_}
+use Prim.Native.Nat.{ℕ, suc, _+_, _*_, _^_, _≤_, _<_}
 use native.Mathlib.Nat.{le-trans}
 use native.Mathlib.Omega.{arith}
 use lib.Dec.{T}
 use lib.ListN.{length, getD}
 use lib.IntN.{ℤ, pos, _-ℤ_}
-use Rattle.integer.specs.Round.{clamp}
+use Rattle.integer.specs.Round.{floor, clamp}
 use Rattle.word.specs.Word.{wordAt, wordsAt}
 use Rattle.word.proofs.Words.{getD-words-front}
 use Rattle.word.specs.Format.{top}
+use Rattle.gradient.specs.Index.{sumZ}
 use Rattle.gradient.specs.Problem.{Command, Problem, F}
-use Rattle.gradient.specs.Scheme.{Iterate, linear, nextZ, nextY, iterate}
-use Rattle.gradient.specs.Bounds.{Error, slack, weight, nextE, nextQ, errorAfter, rangeA}
-use Rattle.gradient.specs.Demand.{ordered, headroom, inputsWithin, startWithin, InWord, InRange, Demand3}
+use Rattle.gradient.specs.Scheme.{Iterate, products, linear, nextZ, nextY, iterate}
+use Rattle.gradient.specs.Bounds.{Error, weight, nextE, nextQ, errorAfter, rangeA}
+use Rattle.gradient.specs.Demand.{formatted, ordered, headroom, inputsWithin, startWithin, InWord, RunningSums, InRange, Demand3}
 use Rattle.gradient.specs.Sizes.{SizedCommand, Sized}
-use Rattle.gradient.proofs.Index.{sumZ-cong, sumN-cong, linear-word, unclamped-sum, weight-sum, step-z-at, step-y-at, errorStep-e-at, errorStep-q-at, all1-at, map-at}
+use Rattle.gradient.proofs.Index.{productsAt, sumZ-cong, sumN-cong, running-sum, unclamped-sum, weight-sum, step-z-at, step-y-at, errorStep-e-at, errorStep-q-at, all1-at, map-at}
 use Rattle.gradient.proofs.Lengths.{iterate-z-length, iterate-y-length, error-e-length, error-q-length}
 use Rattle.gradient.proofs.Tests.{headroom-at, start-length}
 use Rattle.gradient.proofs.Demand.{demand3}
@@ -25,17 +26,20 @@ use Rattle.image.specs.Sizes.{commandCount}
 use Rattle.image.specs.Layout.{sizesOf, problemOf}
 use Rattle.interface.specs.Calls.{inputsOf, startOf}
 use Rattle.interface.specs.Accepted.{Solvable}
-use Rattle.dot.specs.Sums.{productAt, weightTo}
+use Rattle.interface.proofs.Demand.{all-claims}
+use Rattle.dot.specs.Sums.{productAt, RunsTo, weightTo}
 use Rattle.rows.specs.declared.Terms.{Terms}
 use Rattle.rows.specs.Rows.{unclampedAt, zAt, eAt, Fitting}
 use Rattle.iteration.specs.declared.State.{State}
 use Rattle.iteration.specs.Steps.{pointOf, qAt, Ready, Advanced}
-use Rattle.loading.proofs.Tables.{nothing, command, Represents, count-is}
+use Rattle.loading.specs.Tables.{Loadable}
+use Rattle.loading.proofs.Tables.{nothing, command, command-is, Represents, count-is}
 use Rattle.solve.specs.Reached.{Reached, ReachedOf, FirstOf}
 
 -- what the checks say of a problem, its inputs and a start
 pub record Checked (p : Problem) (inputs start : List ℤ) : Type 0 where
   pub sized : Sized p
+  pub format : T (formatted p)
   pub order : T (ordered p)
   pub room : T (headroom p)
   pub inputs-in : T (inputsWithin p inputs)
@@ -45,15 +49,15 @@ module _ {p : Problem} {inputs start : List ℤ} {m : List (List ℤ)} {t : Term
   of-command : (i : ℕ) → i < length (p .commands) → SizedCommand p (command p i)
   of-command i h = all1-at (chk .sized .commands-sized) nothing i h
 
-  -- the linear term is a running sum, so demand 3 says that it is a word
-  linear-fits : (i : ℕ) → i < length (p .commands) → InWord p (linear p inputs (command p i))
+  -- demand 3, of the iterates so far
+  in-range : (k : ℕ) → InRange p inputs (iterate p inputs start k)
   unfolding Demand3
-  linear-fits i h =
-      let claim = demand3 p inputs start (chk .order) (chk .room) (chk .inputs-in) (chk .starts-in) 0 in
-      linear-word p inputs (command p i) (all1-at (claim .inRange 0 (omega arith) .linear-sums) nothing i h)
+  in-range k = demand3 p inputs start (chk .format) (chk .order) (chk .room) (chk .inputs-in) (chk .starts-in) k .inRange k (omega arith)
+
+  linear-fits : (i : ℕ) → i < length (p .commands) → InWord p (linear p inputs (command p i))
+  linear-fits i h = all1-at (in-range 0 .linear-word) nothing i h
 
   fitting : Fitting t
-  unfolding slack
   fitting =
       let s = chk .sized in
       let n = rep .n-is in
@@ -62,7 +66,6 @@ module _ {p : Problem} {inputs start : List ℤ} {m : List (List ℤ)} {t : Term
         low = omega (arith, rep .b-is, s .b-least);
         high = omega (arith, rep .b-is, s .b-most);
         momentum-most = omega (arith, rep .momentum-is, s .momentum-most, F-most p s);
-        slack-most = omega (arith, rep .slack-is, s .commands-most, s .inputs-most);
         lowers = λ i h. let l : i < length (p .commands) = omega arith in rw (rep .lowers i l) (le-trans (word-abs p s _ (of-command i l .lower-word)) (omega arith));
         uppers = λ i h. let l : i < length (p .commands) = omega arith in rw (rep .uppers i l) (le-trans (word-abs p s _ (of-command i l .upper-word)) (omega arith));
         linears = λ i h. let l : i < length (p .commands) = omega arith in rw (rep .linears i l) (le-trans (word-abs p s _ (linear-fits i l)) (omega arith));
@@ -81,8 +84,7 @@ module _ {p : Problem} {inputs start : List ℤ} {m : List (List ℤ)} {t : Term
     E = errorAfter p k
 
     range : InRange p inputs I
-    unfolding Demand3
-    range = demand3 p inputs start (chk .order) (chk .room) (chk .inputs-in) (chk .starts-in) k .inRange k (omega arith)
+    range = in-range k
 
     starts : length start ≡ N
     starts = start-length p start (chk .starts-in)
@@ -100,6 +102,16 @@ module _ {p : Problem} {inputs start : List ℤ} {m : List (List ℤ)} {t : Term
         (sumN-cong _ _ N (λ j l. rw (rep .rows i h j l, at .at-q .each j l))
         ∙ sym (weight-sum (command p i .row) (E .q) N (of-command i h .row-length) (error-q-length p k)))
 
+    -- the sums that the code takes of a row of M y are running sums
+    terms-are : (i : ℕ) → i < N → (a n : ℕ) → a + n ≤ N → sumZ (productAt (getD m i []) (s .y)) a n ≡ sumZ (productsAt (command p i .row) (I .y)) a n
+    unfolding productAt
+    terms-are i h a n l = sumZ-cong _ _ a n (λ j o u. rw (rep .rows i h j (omega arith), at .at-y .each j (omega arith)))
+
+    sums : (i : ℕ) → i < N → RunsTo N (productAt (getD m i []) (s .y))
+    sums i h a n l =
+        rw (terms-are i h a n l)
+        (running-sum (command p i .row) (I .y) (all1-at (range .row-sums) nothing i h) a n (omega (arith, of-command i h .row-length)) (omega (arith, y-length)))
+
     headroom-A : (i : ℕ) → i < N → rangeA p (command p i) ≤ top (p .W)
     headroom-A i h = omega (arith, headroom-at p (chk .room) nothing i h .fitsAB)
 
@@ -116,6 +128,7 @@ module _ {p : Problem} {inputs start : List ℤ} {m : List (List ℤ)} {t : Term
               rw (at .at-z .each i a) (le-trans (word-abs p z _ (all1-at (range .z-word) (pos 0) i (omega (arith, z-length)))) (omega arith));
           points = λ i h. let a : i < N = omega arith in
               rw (at .at-y .each i a) (le-trans (word-abs p z _ (all1-at (range .y-word) (pos 0) i (omega (arith, y-length)))) (omega arith));
+          sums = λ i h. rw n (sums i (omega arith));
           errors = λ i h. let a : i < N = omega arith in rw (at .at-e .each i a) (e-fits p z nothing k i a);
           weights = λ i h. let a : i < N = omega arith in
               rw (weights i a) (weight-most p z (command p i) (of-command i a) (headroom-A i a) k);
@@ -124,11 +137,10 @@ module _ {p : Problem} {inputs start : List ℤ} {m : List (List ℤ)} {t : Term
     -- ---- one more
     module _ (r : State) (adv : Advanced m t s r) where
       z-is : (i : ℕ) → i < N → zAt m t (s .y) i ≡ nextZ p inputs (I .y) (command p i)
-      unfolding zAt unclampedAt nextZ productAt F
+      unfolding zAt unclampedAt nextZ F
       z-is i h =
           rw (rep .b-is, rep .n-is, rep .lowers i h, rep .uppers i h, rep .linears i h, unclamped-sum p inputs (I .y) (command p i) N (of-command i h .row-length) y-length)
-          (ap (λ (x : ℤ). clamp (command p i .lower) (command p i .upper) (x -ℤ linear p inputs (command p i)))
-          (sumZ-cong _ _ 0 N (λ j l u. rw (rep .rows i h j (omega arith), at .at-y .each j (omega arith)))))
+          (ap (λ (x : ℤ). clamp (command p i .lower) (command p i .upper) (floor x (2 ^ p .b) -ℤ linear p inputs (command p i))) (terms-are i h 0 N (omega arith)))
 
       new-z : (i : ℕ) → i < N → getD (r .z) i (pos 0) ≡ getD (iterate p inputs start (suc k) .z) i (pos 0)
       unfolding iterate
@@ -144,7 +156,7 @@ module _ {p : Problem} {inputs start : List ℤ} {m : List (List ℤ)} {t : Term
       unfolding errorAfter eAt nextE F
       new-e i h =
           adv .new-e .each i (omega (arith, rep .n-is))
-          ∙ rw (weights i h, rep .b-is, rep .slack-is, rep .widths i h) (sym (errorStep-e-at p E nothing 0 i h))
+          ∙ rw (weights i h, rep .b-is, rep .widths i h) (sym (errorStep-e-at p E nothing 0 i h))
 
       new-q : (i : ℕ) → i < N → getD (r .q) i 0 ≡ getD (errorAfter p (suc k) .q) i 0
       unfolding errorAfter qAt nextQ F
@@ -162,7 +174,19 @@ module _ {p : Problem} {inputs start : List ℤ} {m : List (List ℤ)} {t : Term
 
 -- ---- on an image
 pub checked : {image state target start : List ℕ} → Solvable image state target start → Checked (problemOf image) (inputsOf (sizesOf image) state target) (startOf (sizesOf image) start)
-checked s = record { sized = s .accepted .sized; order = s .accepted .order; room = s .accepted .room; inputs-in = s .inputs; starts-in = s .starts }
+checked s = record { sized = s .accepted .sized; format = s .accepted .format; order = s .accepted .order; room = s .accepted .room; inputs-in = s .inputs; starts-in = s .starts }
+
+-- the sums of h, by demand 3 of the start
+pub loadable : {image state target start : List ℕ} → Solvable image state target start → Loadable (sizesOf image) image state target
+unfolding Demand3 problemOf
+loadable {image} {state} {target} {start} s = record {
+  whole = s .accepted .whole;
+  state-size = s .state-size;
+  target-size = s .target-size;
+  sums = λ i h. let l : i < length (problemOf image .commands) = omega (arith, count-is image) in
+      subst (λ (r : Command). RunningSums (products (r .gains) (inputsOf (sizesOf image) state target))) (command-is (sizesOf image) image i l)
+      (all1-at (all-claims image state target start s 0 .inRange 0 (omega arith) .linear-sums) nothing i l);
+}
 
 -- before the first iteration
 pub first-reached : (image state target start : List ℕ) (s : State) → FirstOf start (commandCount (sizesOf image)) s → ReachedOf image state target start 0 s

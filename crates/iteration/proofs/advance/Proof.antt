@@ -6,7 +6,7 @@ use Rattle.iteration.proofs.advance.Tie as tie
 next-rows-requires : tie.Need-next-rows-requires
 next-rows-requires c κs =
     let p = c .before .before .before .before .pre in
-    ((p .terms, p .rows), (p .points, p .weights))
+    ((p .terms, p .rows), ((p .points, p .sums), p .weights))
 
 next-y-requires : tie.Need-next-y-requires
 next-y-requires c κs =

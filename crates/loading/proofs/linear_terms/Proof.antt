@@ -1,17 +1,25 @@
 -- `loading::linear_terms` meets its contract. Assumes nothing.
 use native.Mathlib.Omega.{arith}
-use mathlib.Core.Path.{_≡_, _∙_}
-use Prim.Native.Nat.{_-_}
+use mathlib.Core.Path.{_≡_, ap, _∙_}
+use Prim.Native.Nat.{ℕ, _-_, _^_}
 use lib.IntN.{ℤ, pos, _+ℤ_}
 use mir.Syntax.{w64}
-use mir.Val.{SFits, toZ, ofZ}
+use mir.Val.{SFits}
 use mir.Facts.{toZ-ofZ}
-use Rattle.integer.proofs.Laws.{abs-add}
+use Rattle.integer.specs.Round.{floor}
 use Rattle.integer.proofs.Machine.{back, fit-abs}
+use Rattle.gradient.specs.Index.{sumZ}
+use Rattle.gradient.specs.Scheme.{products}
+use Rattle.gradient.specs.Demand.{RunningSums}
+use Rattle.image.specs.declared.Input.the-variants.{State, Target}
 use Rattle.image.specs.Sizes.{commandCount}
+use Rattle.image.specs.Layout.{gainRow, commandAt}
+use Rattle.interface.specs.Calls.{inputsOf}
+use Rattle.dot.specs.Sums.{inputTerm}
 use Rattle.array.proofs.Filling.{Filling, none, more, full}
 use Rattle.loading.specs.Tables.{linearAt}
-use Rattle.loading.proofs.Tables.{linear-is}
+use Rattle.loading.proofs.Tables.{linear-is, state-runs, target-runs, whole-within}
+use borrow.Author.Needs.{needs}
 use Rattle.loading.proofs.linear_terms.Statement.{statement}
 use Rattle.loading.proofs.linear_terms.Tie as tie
 
@@ -21,10 +29,27 @@ Inv-loop image state target z n x y r₀ i₀ r i = Filling (pos 0) (λ k h. h �
 abbrev μ-loop : tie.MeasureT-loop
 μ-loop image state target z n x y r₀ i₀ r i = n - i
 
--- a turn's two sums
-module _ (c : tie.After-gain-sum2 Inv-loop μ-loop) where
+-- what a turn goes by
+module _ (l : tie.In-loop Inv-loop μ-loop) where
   abbrev a : tie.Start Inv-loop μ-loop
-  a = c .before .before .before .before .before .before .before .before .before .before .before .before .before
+  a = l .before .before .before .before .before .before .before .before .before
+
+  abbrev i : ℕ
+  i = l .before .loop .i
+
+  abbrev xs : tie.After-words-of Inv-loop μ-loop
+  xs = l .before .before .before .before
+
+  abbrev ys : tie.After-words-of2 Inv-loop μ-loop
+  ys = l .before .before .before
+
+  sums : RunningSums (products (commandAt (a .args .z) (a .args .image .now) i .gains) (inputsOf (a .args .z) (a .args .state .now) (a .args .target .now)))
+  sums = a .pre .sums i (l .loop-test .taken)
+
+-- a turn's two sums, and that they are one
+module _ (c : tie.After-gain-sum2 Inv-loop μ-loop) where
+  abbrev l : tie.In-loop Inv-loop μ-loop
+  l = c .before .before .before .before
 
   abbrev x : ℤ
   x = c .before .before .gain-sum .result
@@ -32,27 +57,28 @@ module _ (c : tie.After-gain-sum2 Inv-loop μ-loop) where
   abbrev y : ℤ
   y = c .gain-sum2 .result
 
+  abbrev whole : ℤ
+  whole =
+      sumZ (inputTerm (gainRow State (a l .args .z) (a l .args .image .now) (i l)) (xs l .words-of .result)) 0 (a l .args .z .nx)
+      +ℤ sumZ (inputTerm (gainRow Target (a l .args .z) (a l .args .image .now) (i l)) (ys l .words-of2 .result)) 0 (a l .args .z .nr)
+
+  one : x +ℤ y ≡ whole
+  one = cc (c .before .before .gain-sum .ensures, c .gain-sum2 .ensures)
+
   fits : SFits w64 (x +ℤ y)
   fits =
-      let s = a .pre .0 .sizes in
-      fit-abs (x +ℤ y) (omega (arith, abs-add x y, c .before .before .gain-sum .ensures .1, c .gain-sum2 .ensures .1, s .nx-high, s .nr-high))
-
-  made : toZ w64 (ofZ w64 (toZ w64 (ofZ w64 x) +ℤ toZ w64 (ofZ w64 y))) ≡ linearAt (a .args .z) (a .args .image .now) (a .args .state .now) (a .args .target .now) (c .before .before .before .before .before .loop .i)
-  made =
-      let v = c .before .before .before .before .before .before .before .before .words-of in
-      let w = c .before .before .before .before .before .before .before .words-of2 in
-      rw (back x (c .before .before .gain-sum .ok), back y (c .gain-sum2 .ok), toZ-ofZ fits)
-      ((cc (c .before .before .gain-sum .ensures .0, c .gain-sum2 .ensures .0))
-      ∙ linear-is (a .args .z) (a .args .image .now) (a .args .state .now) (a .args .target .now) (v .result) (w .result) (c .before .before .before .before .before .loop .i) (v .ensures .0) (w .ensures .0))
+      let s = a l .args in
+      fit-abs (x +ℤ y)
+      (rw one (whole-within (s .z) (s .image .now) (s .state .now) (s .target .now) (i l) (xs l .words-of .result) (ys l .words-of2 .result) (xs l .words-of .ensures .0) (ys l .words-of2 .ensures .0) (sums l)))
 
 mul-n : tie.Need-mul-n Inv-loop μ-loop
-mul-n c = omega arith
+mul-n c = search needs
 
 words-of-requires : tie.Need-words-of-requires Inv-loop μ-loop
-words-of-requires c κs = omega arith
+words-of-requires c κs = search needs
 
 words-of-requires-2 : tie.Need-words-of-requires-2 Inv-loop μ-loop
-words-of-requires-2 c κs = omega arith
+words-of-requires-2 c κs = search needs
 
 blank-requires : tie.Need-blank-requires Inv-loop μ-loop
 blank-requires c κs = tt
@@ -63,30 +89,49 @@ loop-holds c =
     none (pos 0) (λ k h. h ≡ linearAt (a .z) (a .image .now) (a .state .now) (a .target .now) k) (commandCount (a .z)) (c .blank .result) (c .blank .ensures)
 
 gain-sum-requires : tie.Need-gain-sum-requires Inv-loop μ-loop
-gain-sum-requires c κs = ((c .before .before .before .before .before .before .before .before .before .before .pre .0, c .before .loop-test .taken), c .before .before .before .before .before .words-of .ensures .1)
+gain-sum-requires c κs =
+    let l = c .before in
+    let s = a l .args in (
+      (a l .pre .whole, l .loop-test .taken),
+      (xs l .words-of .ensures .1, state-runs (s .z) (s .image .now) (s .state .now) (s .target .now) (i l) (xs l .words-of .result) (ys l .words-of2 .result) (xs l .words-of .ensures .0) (ys l .words-of2 .ensures .0) (sums l)),
+    )
 
 gain-sum-requires-2 : tie.Need-gain-sum-requires-2 Inv-loop μ-loop
-gain-sum-requires-2 c κs = ((c .before .before .before .before .before .before .before .before .before .before .before .before .pre .0, c .before .before .before .loop-test .taken), c .before .before .before .before .before .before .words-of2 .ensures .1)
+gain-sum-requires-2 c κs =
+    let l = c .before .before .before in
+    let s = a l .args in (
+      (a l .pre .whole, l .loop-test .taken),
+      (ys l .words-of2 .ensures .1, target-runs (s .z) (s .image .now) (s .state .now) (s .target .now) (i l) (xs l .words-of .result) (ys l .words-of2 .result) (xs l .words-of .ensures .0) (ys l .words-of2 .ensures .0) (sums l)),
+    )
 
-add-r : tie.Need-add-r Inv-loop μ-loop
-add-r c = rw (back (x c) (c .before .before .gain-sum .ok), back (y c) (c .gain-sum2 .ok)) (fits c)
+add-s : tie.Need-add-s Inv-loop μ-loop
+add-s c = rw (back (x c) (c .before .before .gain-sum .ok), back (y c) (c .gain-sum2 .ok)) (fits c)
+
+floor-div-requires : tie.Need-floor-div-requires Inv-loop μ-loop
+floor-div-requires c κs = omega (arith, a (l c) .pre .whole .sizes .b-high)
 
 mul-r : tie.Need-mul-r Inv-loop μ-loop
 mul-r c = omega arith
 
 array-set-from-r : tie.Need-array-set-from-r Inv-loop μ-loop
-array-set-from-r c = omega arith
+array-set-from-r c = omega (arith, a (l (c .before)) .pre .whole .sizes .n-high)
 
 add-i : tie.Need-add-i Inv-loop μ-loop
-add-i c = omega arith
+add-i c = omega (arith, a (l (c .before)) .pre .whole .sizes .n-high)
 
 loop-less : tie.Need-loop-less Inv-loop μ-loop
 loop-less c = omega arith
 
 loop-again : tie.Need-loop-again Inv-loop μ-loop
 loop-again c =
-    let s = a c .args in
-    more (pos 0) (λ k h. h ≡ linearAt (s .z) (s .image .now) (s .state .now) (s .target .now) k) _ (a c .pre .0 .sizes .n-high) (c .before .before .before .before .loop-test .taken) (c .before .before .before .before .before .loop .inv) (made c)
+    let g = c .before in
+    let s = a (l g) .args in
+    let q = c .floor-div in
+    let made = (rw (back (x g) (g .before .before .gain-sum .ok), back (y g) (g .gain-sum2 .ok), toZ-ofZ (fits g)) at (q .ensures)) ∙ ap (λ (h : ℤ). floor h (2 ^ s .z .b)) (one g) in
+    more (pos 0) (λ k h. h ≡ linearAt (s .z) (s .image .now) (s .state .now) (s .target .now) k) _ (a (l g) .pre .whole .sizes .n-high) (l g .loop-test .taken) (l g .before .loop .inv)
+    (back (q .result) (q .ok)
+    ∙ made
+    ∙ linear-is (s .z) (s .image .now) (s .state .now) (s .target .now) (i (l g)) (xs (l g) .words-of .result) (ys (l g) .words-of2 .result) (xs (l g) .words-of .ensures .0) (ys (l g) .words-of2 .ensures .0))
 
 returns : tie.Need-returns Inv-loop μ-loop
 returns c =
@@ -106,7 +151,8 @@ linear-terms-spec =
     loop-holds
     gain-sum-requires
     gain-sum-requires-2
-    add-r
+    add-s
+    floor-div-requires
     mul-r
     array-set-from-r
     add-i

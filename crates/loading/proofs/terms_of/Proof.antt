@@ -25,23 +25,16 @@ magnitude-requires c κs =
     let m = c .momentum-at in
     rw (back (m .result) (m .ok)) (omega (arith, natAbs-le (m .result) (m .ensures .1 .sfits)))
 
-add-larger : tie.Need-add-larger
-add-larger c = search needs
-
-larger-requires : tie.Need-larger-requires
-larger-requires c κs = search needs
-
 returns : tie.Need-returns
 returns c =
-    let l = c .before .before .before .before .before .before .before .before .limits-of .ensures in
-    let m = c .before .before .before .momentum-at in
+    let l = c .before .before .before .before .before .before .limits-of .ensures in
+    let m = c .before .momentum-at in
     record {
       lowers = l .lowers;
       uppers = l .uppers;
       widths = l .widths;
-      linears = c .before .before .before .before .linear-terms .ensures;
-      momentum-is = (rw (back (m .result) (m .ok)) at (c .before .before .magnitude .ensures)) ∙ ap natAbs (m .ensures .0);
-      slack-is = c .larger .ensures;
+      linears = c .before .before .linear-terms .ensures;
+      momentum-is = (rw (back (m .result) (m .ok)) at (c .magnitude .ensures)) ∙ ap natAbs (m .ensures .0);
       n-is = refl;
       b-is = refl;
     }
@@ -55,6 +48,4 @@ terms-of-spec =
     linear-terms-requires
     momentum-at-requires
     magnitude-requires
-    add-larger
-    larger-requires
     returns)

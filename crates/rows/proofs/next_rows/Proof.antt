@@ -2,18 +2,23 @@
 use native.Mathlib.Omega.{arith}
 use lib.Pow.{pow-pos}
 use mathlib.Core.Path.{_≡_, ap, _∙_}
+use mathlib.Core.List.{[]}
 use Prim.Native.Nat.{ℕ, _+_, _-_, _^_, _≤_, _<_, min}
 use lib.ListN.{getD}
 use lib.IntN.{ℤ, pos, natAbs, _-ℤ_}
 use mir.Syntax.{w64}
 use mir.Val.{toZ, ofZ, SFits}
 use mir.Facts.{toZ-ofZ}
-use Rattle.integer.specs.Round.{ceil, clamp}
+use Rattle.integer.specs.Round.{floor, ceil, clamp}
 use Rattle.integer.proofs.Laws.{abs-sub}
 use Rattle.integer.proofs.Machine.{back, fit-abs}
 use Rattle.integer.proofs.Floor.{ceil-most}
 use Rattle.array.proofs.Filling.{Filling, none, more, full}
+use Rattle.gradient.specs.Index.{sumZ}
+use Rattle.gradient.specs.Bounds.{slack}
+use Rattle.dot.specs.Sums.{productAt}
 use Rattle.rows.specs.Rows.{unclampedAt, zAt, eAt}
+use Rattle.rows.proofs.Small.{divided-size}
 use Rattle.rows.proofs.next_rows.Statement.{statement}
 use Rattle.rows.proofs.next_rows.Tie as tie
 
@@ -26,13 +31,24 @@ abbrev μ-loop : tie.MeasureT-loop
 -- a turn's t
 module _ (c : tie.After-x Inv-loop μ-loop) where
   abbrev start : tie.Start Inv-loop μ-loop
-  start = c .before .before .before .before .before .before .before .before
+  start = c .before .before .before .before .before .before .before .before .before
 
   abbrev i : ℕ
-  i = c .before .before .before .before .before .loop .i
+  i = c .before .before .before .before .before .before .loop .i
+
+  abbrev sum : ℤ
+  sum = sumZ (productAt (getD (start .args .t1) i []) (start .args .t3)) 0 (start .args .t2 .n)
 
   abbrev x : ℤ
-  x = c .before .dot .result
+  x = c .before .floor-div .result
+
+  divided : x ≡ floor sum (2 ^ start .args .t2 .b)
+  divided =
+      let d = c .before .before .dot in
+      (rw (back (d .result) (d .ok)) at (c .before .floor-div .ensures)) ∙ ap (λ (z : ℤ). floor z (2 ^ start .args .t2 .b)) (d .ensures)
+
+  x-small : natAbs x ≤ 2 ^ 59
+  x-small = rw divided (divided-size sum (start .args .t2 .b) (start .pre .1 .0 .1 i (omega arith) 0 (start .args .t2 .n) (omega arith)) (start .pre .0 .0 .low))
 
   abbrev h : ℤ
   h = getD (start .args .t2 .linear) i (pos 0)
@@ -44,11 +60,11 @@ module _ (c : tie.After-x Inv-loop μ-loop) where
   fh = fit-abs h (omega (arith, small))
 
   whole : SFits w64 (x -ℤ h)
-  whole = fit-abs (x -ℤ h) (omega (arith, abs-sub x h, small, c .before .dot .ensures .1, start .pre .0 .0 .few))
+  whole = fit-abs (x -ℤ h) (omega (arith, abs-sub x h, small, x-small))
 
   made : toZ w64 (ofZ w64 (toZ w64 (ofZ w64 x) -ℤ toZ w64 (ofZ w64 h))) ≡ unclampedAt (start .args .t1) (start .args .t2) (start .args .t3) i
   unfolding unclampedAt
-  made = rw (back x (c .before .dot .ok), toZ-ofZ fh, toZ-ofZ whole) (ap (λ (z : ℤ). z -ℤ h) (c .before .dot .ensures .0))
+  made = rw (back x (c .before .floor-div .ok), toZ-ofZ fh, toZ-ofZ whole) (ap (λ (z : ℤ). z -ℤ h) divided)
 
 -- a turn's sum of |M| × q
 module _ (c : tie.After-weight Inv-loop μ-loop) where
@@ -79,8 +95,15 @@ dot-requires : tie.Need-dot-requires Inv-loop μ-loop
 dot-requires c κs =
     let a = c .before .before .before .before .before .before in
     let i = c .before .before .before .loop .i in
-    let f = a .pre .0 .0 in
-    record { few = omega arith; low = f .low; high = f .high; left = λ j h. a .pre .0 .1 i (omega arith) j (omega arith); right = λ j h. a .pre .1 .0 j (omega arith) }
+    record {
+      few = omega arith;
+      left = λ j h. a .pre .0 .1 i (omega arith) j (omega arith);
+      right = λ j h. a .pre .1 .0 .0 j (omega arith);
+      runs = λ j k h. a .pre .1 .0 .1 i (omega arith) j k (omega arith);
+    }
+
+floor-div-requires : tie.Need-floor-div-requires Inv-loop μ-loop
+floor-div-requires c κs = omega arith
 
 mul-x : tie.Need-mul-x Inv-loop μ-loop
 mul-x c = omega arith
@@ -89,7 +112,7 @@ element-copy-out-x : tie.Need-element-copy-out-x Inv-loop μ-loop
 element-copy-out-x c = omega arith
 
 sub-x : tie.Need-sub-x Inv-loop μ-loop
-sub-x c = rw (back (x c) (c .before .dot .ok), toZ-ofZ (fh c)) (whole c)
+sub-x c = rw (back (x c) (c .before .floor-div .ok), toZ-ofZ (fh c)) (whole c)
 
 mul-clamp : tie.Need-mul-clamp Inv-loop μ-loop
 mul-clamp c = omega arith
@@ -120,8 +143,9 @@ index-1-weight c = omega arith
 
 weight-requires : tie.Need-weight-requires Inv-loop μ-loop
 weight-requires c κs =
-    let a = c .before .before .before .before .before .before .before .before .before .before .before .before .before in
-    let i = c .before .before .before .before .before .before .before .before .before .before .loop .i in
+    let d = c .before .before .before .before .before in
+    let a = start d in
+    let i = i d in
     record { few = a .pre .0 .0 .few; row = a .pre .0 .1 i (omega arith); small = a .pre .1 .1 i (omega arith) }
 
 ceil-div-requires : tie.Need-ceil-div-requires Inv-loop μ-loop
@@ -152,21 +176,21 @@ loop-less : tie.Need-loop-less Inv-loop μ-loop
 loop-less c = omega arith
 
 loop-again : tie.Need-loop-again Inv-loop μ-loop
-unfolding zAt eAt
+unfolding zAt eAt slack
 loop-again c =
     let d = c .before .before .before .before .before .before .before .before .before in
     let a = start d in
-    let l = c .before .before .before .before .before .before .before .before .before .before .before .before .before .before .loop in
+    let l = d .before .before .before .before .before .before .loop in
     let u = c .before .before .before .before .before .before .clamp in
     let few = a .pre .0 .0 .few in
-    let h = c .before .before .before .before .before .before .before .before .before .before .before .before .before .loop-test .taken in (
+    let h = d .before .before .before .before .before .loop-test .taken in (
       more (pos 0) (λ k x. x ≡ zAt (a .args .t1) (a .args .t2) (a .args .t3) k) (toZ w64 (ofZ w64 (u .result))) few h (l .inv .0)
           (back (u .result) (u .ok)
           ∙ (rw (back (getD (a .args .t2 .lower) (i d) (pos 0)) (c .before .before .before .before .before .before .before .before .clamp-arg .given), back (getD (a .args .t2 .upper) (i d) (pos 0)) (c .before .before .before .before .before .before .before .clamp-arg2 .given)) at (u .ensures))
           ∙ ap (clamp (getD (a .args .t2 .lower) (i d) (pos 0)) (getD (a .args .t2 .upper) (i d) (pos 0))) (made d)),
       more 0 (λ k x. x ≡ eAt (a .args .t1) (a .args .t2) (a .args .t4) k) _ few h (l .inv .1)
           (c .smaller .ensures
-          ∙ ap (λ (k : ℕ). min (getD (a .args .t2 .width) (i d) 0) (k + a .args .t2 .slack))
+          ∙ ap (λ (k : ℕ). min (getD (a .args .t2 .width) (i d) 0) (k + slack))
           (c .before .before .ceil-div .ensures ∙ ap (λ (w : ℕ). ceil w (2 ^ a .args .t2 .b)) (c .before .before .before .weight .ensures))),
     )
 
@@ -188,6 +212,7 @@ next-rows-spec =
     mul-dot
     index-1-dot
     dot-requires
+    floor-div-requires
     mul-x
     element-copy-out-x
     sub-x

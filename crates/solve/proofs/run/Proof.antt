@@ -7,11 +7,10 @@ use Rattle.image.specs.declared.Sizes.{Sizes}
 use Rattle.image.specs.Sizes.{Whole, commandCount}
 use Rattle.image.specs.Layout.{sizesOf, problemOf}
 use Rattle.interface.specs.Calls.{inputsOf}
-use Rattle.loading.proofs.Tables.{Represents}
-use Rattle.loading.proofs.Tables.{represents}
+use Rattle.loading.specs.Tables.{Loadable}
+use Rattle.loading.proofs.Tables.{Represents, represents}
 use Rattle.solve.specs.Reached.{FirstOf, ReachedOf}
-use Rattle.solve.proofs.Reached.{ready, reached}
-use Rattle.solve.proofs.Reached.{checked, first-reached}
+use Rattle.solve.proofs.Reached.{ready, reached, checked, loadable, first-reached}
 use Rattle.solve.proofs.run.Statement.{statement}
 use Rattle.solve.proofs.run.Tie as tie
 
@@ -48,9 +47,8 @@ matrix-requires c κs = is-whole c
 
 terms-of-requires : tie.Need-terms-of-requires Inv-loop μ-loop
 terms-of-requires c κs =
-    let s = start (c .before) .pre in
-    let e = sym (c .before .sizes-of .ensures) in
-    (is-whole (c .before), (s .state-size ∙ ap (λ (z : Sizes). 4 * z .nx) e, s .target-size ∙ ap (λ (z : Sizes). 4 * z .nr) e))
+    let a = start (c .before) in
+    subst (λ (z : Sizes). Loadable z (a .args .image .now) (a .args .state .now) (a .args .target .now)) (sym (c .before .sizes-of .ensures)) (loadable (a .pre))
 
 first-requires : tie.Need-first-requires Inv-loop μ-loop
 first-requires c κs =
