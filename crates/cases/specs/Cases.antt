@@ -5,12 +5,13 @@ use mathlib.Core.List.{List, [], _∷_, _++_, map}
 use Prim.Native.Nat.{ℕ, _*_}
 use Prim.Native.String.{String}
 use lib.Dec.{eqb}
-use lib.IntN.{ℤ, pos, negsuc}
+use lib.IntN.{ℤ, pos, negsuc, negℤ}
 use lib.Ieee.{binary64, ofBits}
 use lib.ListN.{take, drop}
 use Rattle.word.specs.Ascii.{ascii}
 use Rattle.word.specs.Word.{wordsOut}
 use Rattle.double.specs.Double.{conversionNumber, rounded, roundUp, roundDown}
+use Rattle.gradient.specs.Index.{tab}
 use Rattle.gradient.specs.Demand.{every2}
 use Rattle.interface.specs.Tables.{eqZ, imageNumber}
 use Rattle.interface.specs.Calls.{coldAnswer, solveNumber, commandsAfter, boundsAfter}
@@ -48,7 +49,7 @@ holds (pages sheet room n) = eqb (pageNumber sheet room) n
 -- S with a step factor, limits −l and l, a state limit
 unfoldable pub S : ℕ → ℕ → ℕ → List ℕ
 S beta l bound =
-    wordsOut (map pos (1 ∷ 1 ∷ 1 ∷ 4 ∷ 8 ∷ 3 ∷ 0 ∷ 0 ∷ 8 ∷ 16 ∷ []) ++ (lib.IntN.negℤ (pos l) ∷ map pos (l ∷ beta ∷ bound ∷ [])))
+    wordsOut (map pos (1 ∷ 1 ∷ 1 ∷ 4 ∷ 8 ∷ 3 ∷ 0 ∷ 0 ∷ 8 ∷ 16 ∷ []) ++ (negℤ (pos l) ∷ map pos (l ∷ beta ∷ bound ∷ [])))
 
 -- one motor, two steps, and H with rows (d, o), (o, d); otherwise S's values, the limits at both steps
 unfoldable pub two : ℕ → ℕ → ℕ → List ℕ
@@ -64,6 +65,21 @@ following bound =
 unfoldable pub varying : ℕ → ℤ → ℤ → List ℕ
 varying beta low high =
     wordsOut (map pos (1 ∷ 2 ∷ 1 ∷ 4 ∷ 8 ∷ 3 ∷ 0 ∷ 0 ∷ 8 ∷ 0 ∷ 0 ∷ 8 ∷ 16 ∷ 16 ∷ []) ++ (negsuc 19 ∷ low ∷ pos 20 ∷ high ∷ map pos (beta ∷ 10 ∷ [])))
+
+-- S with limits −l and l, a state and a target value, and half of each as h
+unfoldable pub halved : ℕ → ℕ → ℕ → List ℕ
+halved l state target =
+    wordsOut (map pos (1 ∷ 1 ∷ 1 ∷ 4 ∷ 8 ∷ 3 ∷ 1 ∷ 0 ∷ 8 ∷ 8 ∷ []) ++ (negℤ (pos l) ∷ map pos (l ∷ 0 ∷ state ∷ 8 ∷ target ∷ [])))
+
+-- S in words of 32 bits with twelve state and four target values, every entry of the two tables and every limit of theirs the largest word
+abbrev largest : ℕ → List ℤ
+largest n = tab (λ (i : ℕ). pos 2147483647) n
+
+unfoldable pub wide : List ℕ
+wide =
+    wordsOut
+    (map pos (1 ∷ 1 ∷ 12 ∷ 4 ∷ 32 ∷ 3 ∷ 4 ∷ 0 ∷ 8 ∷ [])
+    ++ (largest 12 ++ ((negsuc 19 ∷ pos 20 ∷ pos 0 ∷ []) ++ (largest 12 ++ (largest 4 ++ largest 4)))))
 
 -- ---- the table
 unfoldable pub table : List Case
@@ -98,11 +114,11 @@ table =
     -- state 10 passes 13 in S, 11 does not
     ∷ answers (S 0 20 10) (pos 10) [] 0
     ∷ answers (S 0 20 10) (pos 11) [] 13
-    -- request 1: a target of 5 counts leaves h 5, sweeps 1 to 3, with c 2; the state's own value as target leaves 0
-    ∷ solves (following 10) (pos 10) (pos 5 ∷ []) 1 (negsuc 4 ∷ []) (2 ∷ [])
-    ∷ solves (following 10) (pos 10) (pos 5 ∷ []) 2 (negsuc 7 ∷ []) (4 ∷ [])
-    ∷ solves (following 10) (pos 10) (pos 5 ∷ []) 3 (negsuc 8 ∷ []) (5 ∷ [])
-    ∷ solves (following 10) (pos 10) (pos 10 ∷ []) 3 (pos 0 ∷ []) (5 ∷ [])
+    -- request 1: a target of 5 counts leaves h 5, sweeps 1 to 3; the state's own value as target leaves 0
+    ∷ solves (following 10) (pos 10) (pos 5 ∷ []) 1 (negsuc 4 ∷ []) (1 ∷ [])
+    ∷ solves (following 10) (pos 10) (pos 5 ∷ []) 2 (negsuc 7 ∷ []) (2 ∷ [])
+    ∷ solves (following 10) (pos 10) (pos 5 ∷ []) 3 (negsuc 8 ∷ []) (3 ∷ [])
+    ∷ solves (following 10) (pos 10) (pos 10 ∷ []) 3 (pos 0 ∷ []) (3 ∷ [])
     -- A is 10 and the state's part of B 10: a target limit of 107 counts is accepted, 108 refused 12
     ∷ numbers (following 107) 0
     ∷ numbers (following 108) 12
@@ -124,11 +140,11 @@ table =
     ∷ pages (text lines) 263 15
     ∷ pages (changed 6 0x070000401D800000000000) 263 12
     ∷ pages [] 0 4
-    -- request 3: step 1 with limits −5 and 5, sweeps 1 to 3; with −1 and 2, where w holds the bound of step 1 alone
-    ∷ solves (varying 0 (negsuc 4) (pos 5)) (pos 10) [] 1 (negsuc 9 ∷ negsuc 4 ∷ []) (2 ∷ 2 ∷ [])
-    ∷ solves (varying 0 (negsuc 4) (pos 5)) (pos 10) [] 2 (negsuc 14 ∷ negsuc 4 ∷ []) (4 ∷ 4 ∷ [])
-    ∷ solves (varying 0 (negsuc 4) (pos 5)) (pos 10) [] 3 (negsuc 17 ∷ negsuc 4 ∷ []) (5 ∷ 5 ∷ [])
-    ∷ solves (varying 0 (negsuc 0) (pos 2)) (pos 10) [] 3 (negsuc 17 ∷ negsuc 0 ∷ []) (5 ∷ 3 ∷ [])
+    -- request 3: step 1 with limits −5 and 5, sweeps 1 to 3; with −1 and 1, where w holds the bound of step 1 alone
+    ∷ solves (varying 0 (negsuc 4) (pos 5)) (pos 10) [] 1 (negsuc 9 ∷ negsuc 4 ∷ []) (1 ∷ 1 ∷ [])
+    ∷ solves (varying 0 (negsuc 4) (pos 5)) (pos 10) [] 2 (negsuc 14 ∷ negsuc 4 ∷ []) (2 ∷ 2 ∷ [])
+    ∷ solves (varying 0 (negsuc 4) (pos 5)) (pos 10) [] 3 (negsuc 17 ∷ negsuc 4 ∷ []) (3 ∷ 3 ∷ [])
+    ∷ solves (varying 0 (negsuc 0) (pos 1)) (pos 10) [] 3 (negsuc 17 ∷ negsuc 0 ∷ []) (3 ∷ 2 ∷ [])
     -- by step 1 alone: 7; with β 8 counts Y is zb + w / 2, so −62 and 64 are accepted, −63 and 64 refused 12
     ∷ numbers (varying 0 (pos 6) (pos 5)) 7
     ∷ numbers (varying 8 (negsuc 61) (pos 64)) 0
@@ -138,4 +154,18 @@ table =
     ∷ pages (text stepLines) 528 0
     ∷ pages (text mixedLines) 528 2
     ∷ pages (text formerLines) 440 2
+    -- request 4: M y with entries 7 and −3, where −84 / 16 and 36 / 16 would be rounded down to −6 and 2, their sum is −3; c is 1
+    ∷ solves (two 9 3 3) (pos 10) [] 1 (negsuc 9 ∷ negsuc 9 ∷ []) (1 ∷ 1 ∷ [])
+    ∷ solves (two 9 3 3) (pos 10) [] 2 (negsuc 12 ∷ negsuc 12 ∷ []) (3 ∷ 3 ∷ [])
+    ∷ solves (two 9 3 3) (pos 10) [] 4 (negsuc 13 ∷ negsuc 13 ∷ []) (6 ∷ 6 ∷ [])
+    -- h of a state of 1 and a target of 1 count is half a count twice, so 1; of −1 and −2 it is −1.5, so −2
+    ∷ solves (halved 20 10 10) (pos 1) (pos 1 ∷ []) 1 (negsuc 0 ∷ []) (1 ∷ [])
+    ∷ solves (halved 20 10 10) (negsuc 0) (negsuc 1 ∷ []) 1 (pos 2 ∷ []) (1 ∷ [])
+    -- B of limits 117 and 117 is 117, where two terms of 58.5 would be 118; A is 10. Limits of 117 and 118 are 12, and still are where A is
+    -- 9.5: A and B are rounded up apart
+    ∷ numbers (halved 20 117 117) 0
+    ∷ numbers (halved 20 117 118) 12
+    ∷ numbers (halved 19 117 118) 12
+    -- B's sum is 2^66 − 2^36 + 16, which wraps to a number below 0 in 64 bits
+    ∷ numbers wide 12
     ∷ []
