@@ -56,14 +56,14 @@ static int accepted(const struct problem *p, const struct tables *t)
     if (least < 1 || largest > f || (f + t->beta) * (f + t->beta) * least < (f - t->beta) * (f - t->beta) * largest)
         return 0;
     for (int i = 0; i < n; i++) {
-        int64_t sum = 0;
+        int64_t a = 0, b = 0;
         for (int j = 0; j < n; j++)
-            sum += up(magnitude(t->m[i][j]) * t->y[j], p->b);
+            a += magnitude(t->m[i][j]) * t->y[j];
         for (int j = 0; j < p->nx; j++)
-            sum += up(magnitude(word(p, 8 + n * n + i * p->nx + j)) * word(p, limits + 2 * n + 1 + j), p->b);
+            b += magnitude(word(p, 8 + n * n + i * p->nx + j)) * word(p, limits + 2 * n + 1 + j);
         for (int j = 0; j < p->nr; j++)
-            sum += up(magnitude(word(p, targets + i * p->nr + j)) * word(p, targets + n * p->nr + j), p->b);
-        if (sum > top || t->y[i] > top)
+            b += magnitude(word(p, targets + i * p->nr + j)) * word(p, targets + n * p->nr + j);
+        if (up(a, p->b) + up(b, p->b) > top || t->y[i] > top)
             return 0;
     }
     return 1;
@@ -78,11 +78,12 @@ static void load(const struct problem *p, struct tables *t)
         t->high[i] = word(p, limits + n + i);
         int64_t zb = magnitude(t->low[i]) > magnitude(t->high[i]) ? magnitude(t->low[i]) : magnitude(t->high[i]);
         t->y[i] = zb + up(t->beta * (t->high[i] - t->low[i]), p->b);
-        t->h[i] = 0;
+        int64_t h = 0;
         for (int j = 0; j < p->nx; j++)
-            t->h[i] += (word(p, 8 + n * n + i * p->nx + j) * get(p->state + 4 * j)) >> p->b;
+            h += word(p, 8 + n * n + i * p->nx + j) * get(p->state + 4 * j);
         for (int j = 0; j < p->nr; j++)
-            t->h[i] += (word(p, targets + i * p->nr + j) * get(p->target + 4 * j)) >> p->b;
+            h += word(p, targets + i * p->nr + j) * get(p->target + 4 * j);
+        t->h[i] = h >> p->b;
         for (int j = 0; j < n; j++)
             t->m[i][j] = (i == j ? 1ll << p->b : 0) - word(p, 8 + i * n + j);
     }
@@ -92,7 +93,7 @@ static void twin(const struct problem *p, uint8_t *answer)
 {
     struct tables t;
     int64_t z[16], y[16], e[16] = {0}, q[16] = {0}, next[16], bound[16];
-    int n = p->n, b = p->b, c = n > p->nx + p->nr ? n : p->nx + p->nr;
+    int n = p->n, b = p->b;
     load(p, &t);
     if (!accepted(p, &t))
         return;
@@ -100,13 +101,14 @@ static void twin(const struct problem *p, uint8_t *answer)
         z[i] = y[i] = get(p->start + 4 * i);
     for (int s = 0; s < p->sweeps; s++) {
         for (int i = 0; i < n; i++) {
-            int64_t sum = -t.h[i], weight = 0;
+            int64_t sum = 0, weight = 0;
             for (int j = 0; j < n; j++) {
-                sum += (t.m[i][j] * y[j]) >> b;
+                sum += t.m[i][j] * y[j];
                 weight += magnitude(t.m[i][j]) * q[j];
             }
-            next[i] = sum < t.low[i] ? t.low[i] : sum > t.high[i] ? t.high[i] : sum;
-            bound[i] = up(weight, b) + c;
+            int64_t x = (sum >> b) - t.h[i];
+            next[i] = x < t.low[i] ? t.low[i] : x > t.high[i] ? t.high[i] : x;
+            bound[i] = up(weight, b) + 1;
             if (bound[i] > t.high[i] - t.low[i])
                 bound[i] = t.high[i] - t.low[i];
         }
