@@ -1,5 +1,7 @@
 //! Document 01's cases at the edges as one table, the starred ones among them, and a few of our own behind them: edges
-//! that it implies, and those of requests 1 to 3. The figures of ours are worked out by hand from the papers.
+//! that it implies, and those of requests 1 to 4. The figures of ours are worked out by hand from the papers.
+
+mod sums;
 
 use crate::double::of_count;
 use crate::draft::{Draft, keep_former, text};
@@ -188,6 +190,7 @@ pub fn table() -> Vec<Case> {
     table.extend(refused_steps());
     table.extend(headroom_of_steps());
     table.extend(step_lines());
+    table.extend(sums::table());
     table.extend(pages_of_s());
     table.extend(other_pages());
     table.extend(no_pages());
@@ -241,35 +244,30 @@ pub fn two_targets() -> Draft {
 }
 
 /// Request 1, accepted. M is 8 where H is 8, so that with β 0 a sweep makes z into half of z, rounded, less h, and e
-/// into half of e + 1, rounded up, plus c.
+/// into half of e + 1, rounded up, plus c = 1: as in S, e is 1, 2, 3, 3, 3, whatever n, nx and nr.
 fn followed_targets() -> Vec<Case> {
     let one = with_target;
-    // −8 × 7 / 16 = −3.5 is −4, so h = 10 − 4 = 6: −3 − 6, then −4.5 is −5, −5 − 6, then −5.5 is −6, −6 − 6. c is
-    // 1 + 1 = 2: half of 3 is 2, 2 + 2, half of 5 is 3, 3 + 2, half of 6 is 3. Exactly h is 6.5: −6.5, −9.75, −11.375.
-    let rows: [&[i64]; 5] = [&[-6, 2], &[-9, 4], &[-11, 5], &[-12, 5], &[-12, 5]];
+    // (160 − 8 × 7) / 16 = 6.5, so h = 6: −3 − 6, then −4.5 is −5, −5 − 6, then −5.5 is −6, −6 − 6. Exactly −6.5,
+    // −9.75, −11.375.
+    let rows: [&[i64]; 5] = [&[-6, 1], &[-9, 2], &[-11, 3], &[-12, 3], &[-12, 3]];
     let mut table = runs_to("S with a target", &one(), &[10], &[7], &rows);
     // h = 6. y: 24 × −6 / 16 = −9; −16.5 is −17, less −3: −14; −19.5 is −20, less −5.5, which is −6: −14.
-    // z: −4.5 is −5, −5 − 6; −7 − 6; −7 − 6. q: 2 + 1 + 1 = 4, 4 + 3 + 1 = 8, 6 + 5 + 1 = 12; e: half of q, plus 2.
-    let rows: [&[i64]; 4] = [&[-6, 2], &[-11, 4], &[-13, 6], &[-13, 8]];
+    // z: −4.5 is −5, −5 − 6; −7 − 6; −7 − 6. q: 1 + 1 + 1 = 3 (0.5), 3 + 2 + 1 = 6, 4 + 4 + 1 = 9 (3.5); e: half of q,
+    // rounded up, plus 1, as in S with β 8.
+    let rows: [&[i64]; 4] = [&[-6, 1], &[-11, 3], &[-13, 4], &[-13, 6]];
     table.extend(runs_to("S with a target, β 8", &one().with(MOMENTUM, &[8]), &[10], &[7], &rows));
-    // Each product is −0.5 and by itself −1, so h = −2; rounded once it would be −1. 0 + 2, 1 + 2, 1.5 is 1, 1 + 2.
-    let halves = one().with(GAIN, &[8]).with(TARGET_GAIN, &[8]);
-    let rows: [&[i64]; 3] = [&[2, 2], &[3, 4], &[3, 5]];
-    table.extend(runs_to("two halves below zero", &halves, &[-1], &[-1], &rows));
-    // 80, 32, −24 and 8 over 16 are 5, 2, −2 (−1.5) and 0 (0.5), so h = 10 + 5 = 15: −7.5 is −8, −8 − 15 is held. c is
-    // 1 + 4 = 5: half of 6 is 3, 3 + 5; half of 9 is 5, 5 + 5.
+    // 160 + 80 + 32 − 24 + 8 = 256, so h = 16, be −24 / 16 and 8 / 16 what they may: −8 − 16 is held.
     let four = with_targets(&[16, 8, -8, 4], &[5, 4, 3, 2]);
-    let rows: [&[i64]; 3] = [&[-15, 5], &[-20, 8], &[-20, 10]];
+    let rows: [&[i64]; 3] = [&[-16, 1], &[-20, 2], &[-20, 3]];
     table.extend(runs_to("four targets", &four, &[10], &[5, 4, 3, 2], &rows));
-    // h = (1 + 4, −1 + 1); by columns it would be (1 − 2, 2 + 1). −2.5 is −3, −3 − 5; −4 − 5. c is 1 + 2 = 3, above
-    // n = 2: half of 4 + 3, half of 6 + 3.
-    let rows: [&[i64]; 3] = [&[-5, 0, 3, 3], &[-8, 0, 5, 5], &[-9, 0, 6, 6]];
+    // h = (1 + 4, −1 + 1); by columns it would be (1 − 2, 2 + 1). −2.5 is −3, −3 − 5; −4 − 5.
+    let rows: [&[i64]; 3] = [&[-5, 0, 1, 1], &[-8, 0, 2, 2], &[-9, 0, 3, 3]];
     table.extend(runs_to("two steps, two targets", &two_targets(), &[0], &[1, 2], &rows));
-    // h = (1, 0, 0): −0.5 is −1, −1 − 1. c is n = 3, above 1 + 1: half of 4 is 2, 2 + 3.
-    let rows: [&[i64]; 2] = [&[-1, 0, 0, 3, 3, 3], &[-2, 0, 0, 5, 5, 5]];
+    // h = (1, 0, 0): −0.5 is −1, −1 − 1.
+    let rows: [&[i64]; 2] = [&[-1, 0, 0, 1, 1, 1], &[-2, 0, 0, 2, 2, 2]];
     table.extend(runs_to("three steps, one target", &with_targets(&[16, 0, 0], &[1]), &[0], &[1], &rows));
-    // −8 × −7 / 16 = 3.5 is 3, so h = 13: −13, −6.5 is −7, −7 − 13 = −20, then held.
-    table.push(case("target -7", &one(), &[10], Answer(vec![-20, 5])).target(&[-7]));
+    // (160 + 8 × 7) / 16 = 13.5, so h = 13: −13, −6.5 is −7, −7 − 13 = −20, then held.
+    table.push(case("target -7", &one(), &[10], Answer(vec![-20, 3])).target(&[-7]));
     table
 }
 
@@ -358,71 +356,87 @@ pub fn motors_and_steps() -> Draft {
 }
 
 /// H (8,4),(4,8) and β 8: the steps have a part in each other.
-fn coupled(limits: [(i64, i64); 2]) -> Draft {
+pub fn coupled(limits: [(i64, i64); 2]) -> Draft {
     with_steps(1, &limits).with(COST, &[8, 4, 4, 8]).with(MOMENTUM, &[8])
 }
 
-/// Request 3, accepted. Where nothing else is said a sweep makes z into half of z, rounded, less h = 10, and e into half
-/// of e + 1, rounded up, plus c = n, as above.
+/// Request 3, accepted. Where nothing else is said a sweep makes z into half of z, rounded, less h = 10, and e is 1, 2,
+/// 3, as above.
 fn held_by_steps() -> Vec<Case> {
     // −10; −5 − 10; −7.5 is −8, −8 − 10. At step 1 −10, −2.5 is −3, −3 − 10, and the same again, all held.
-    let rows: [&[i64]; 3] = [&[-10, -5, 2, 2], &[-15, -5, 4, 4], &[-18, -5, 5, 5]];
+    let rows: [&[i64]; 3] = [&[-10, -5, 1, 1], &[-15, -5, 2, 2], &[-18, -5, 3, 3]];
     let mut table = runs("the second step eases off", &with_steps(1, &[(-20, 20), (-5, 5)]), &[10], &rows);
-    let rows: [&[i64]; 3] = [&[-5, -10, 2, 2], &[-5, -15, 4, 4], &[-5, -18, 5, 5]];
+    let rows: [&[i64]; 3] = [&[-5, -10, 1, 1], &[-5, -15, 2, 2], &[-5, -18, 3, 3]];
     table.extend(runs("the first step is held", &with_steps(1, &[(-5, 5), (-20, 20)]), &[10], &rows));
-    // w is 3 at step 1: half of 3 is 2, 2 + 2 is 4 or 3; half of 5 is 3, 3 + 2, and half of 4 + 2 is 3 again.
-    let rows: [&[i64]; 3] = [&[-10, -1, 2, 2], &[-15, -1, 4, 3], &[-18, -1, 5, 3]];
-    table.extend(runs("w holds the second step", &with_steps(1, &[(-20, 20), (-1, 2)]), &[10], &rows));
-    // h = −10: 10; 5 + 10; 7.5 is 7, 7 + 10.
-    let rows: [&[i64]; 3] = [&[2, 10, 2, 2], &[2, 15, 3, 4], &[2, 17, 3, 5]];
-    table.extend(runs("w holds the first step", &with_steps(1, &[(-1, 2), (-20, 20)]), &[-10], &rows));
-    // c is 3 and the last w 2: half of 4 + 3, half of 6 + 3. At step 1 −4 − 10 is held.
-    let rows: [&[i64]; 3] = [&[-10, -8, -1, 3, 3, 2], &[-15, -8, -1, 5, 5, 2], &[-18, -8, -1, 6, 6, 2]];
+    // w is 1 at step 1.
+    let rows: [&[i64]; 3] = [&[-10, -1, 1, 1], &[-15, -1, 2, 1], &[-18, -1, 3, 1]];
+    table.extend(runs("w holds the second step", &with_steps(1, &[(-20, 20), (-1, 0)]), &[10], &rows));
+    // w is 2 at step 0. h = −10: 10; 5 + 10; 7.5 is 7, 7 + 10.
+    let rows: [&[i64]; 3] = [&[2, 10, 1, 1], &[2, 15, 2, 2], &[2, 17, 2, 3]];
+    table.extend(runs("w holds the first step", &with_steps(1, &[(0, 2), (-20, 20)]), &[-10], &rows));
+    // The last w is 2. At step 1 −4 − 10 is held.
+    let rows: [&[i64]; 3] = [&[-10, -8, -1, 1, 1, 1], &[-15, -8, -1, 2, 2, 2], &[-18, -8, -1, 3, 3, 2]];
     let narrowing = with_steps(1, &[(-20, 20), (-8, 8), (-1, 1)]);
     table.extend(runs("three steps, narrowing", &narrowing, &[10], &rows));
-    let rows: [&[i64]; 3] = [&[-1, -8, -10, 2, 3, 3], &[-1, -8, -15, 2, 5, 5], &[-1, -8, -18, 2, 6, 6]];
+    let rows: [&[i64]; 3] = [&[-1, -8, -10, 1, 1, 1], &[-1, -8, -15, 2, 2, 2], &[-1, -8, -18, 2, 3, 3]];
     let widening = with_steps(1, &[(-1, 1), (-8, 8), (-20, 20)]);
     table.extend(runs("three steps, widening", &widening, &[10], &rows));
     // A point has w 0, and is its own cold start.
-    let rows: [&[i64]; 3] = [&[-10, 7, -10, 3, 0, 3], &[-15, 7, -15, 5, 0, 5], &[-18, 7, -18, 6, 0, 6]];
+    let rows: [&[i64]; 3] = [&[-10, 7, -10, 1, 0, 1], &[-15, 7, -15, 2, 0, 2], &[-18, 7, -18, 3, 0, 3]];
     let point = with_steps(1, &[(-20, 20), (7, 7), (-20, 20)]);
     table.extend(runs("a point between two steps", &point, &[10], &rows));
-    // c is 4 and w 40, 6, 5, 21: half of 5 is 3, 3 + 4, or w; half of 8 + 4, and 4 + 4 and 3 + 4 after 6 and 5, or w.
-    let rows: [&[i64]; 3] =
-        [&[-10, -4, -2, -10, 4, 4, 4, 4], &[-15, -4, -2, -15, 7, 6, 5, 7], &[-18, -4, -2, -18, 8, 6, 5, 8]];
-    table.extend(runs("two motors, two steps", &motors_and_steps(), &[10], &rows));
-    let rows: [&[i64]; 3] = [&[10, 2, 3, 1, 4, 4, 4, 4], &[15, 2, 3, 1, 7, 6, 5, 7], &[17, 2, 3, 1, 8, 6, 5, 8]];
-    table.extend(runs("two motors, two steps, upward", &motors_and_steps(), &[-10], &rows));
-    // Limits are those of the command, whichever motor and step it belongs to.
-    let answer = || Answer(rows[2].to_vec());
-    table.push(case("four steps of one motor", &with_steps(1, &FOUR), &[-10], answer()));
-    table.push(case("one step of four motors", &with_steps(4, &FOUR), &[-10], answer()));
+    table.extend(motors_by_steps());
     table.extend(coupled_steps());
     let (eased, held) = (with_steps(1, &[(-20, 20), (-5, 5)]), with_steps(1, &[(-5, 5), (-20, 20)]));
     let apart = [(-20, -10), (10, 20)];
     table.extend([
         // Half of −20 is −10, −10 − 10.
-        case("a start at its limits", &eased.iterations(1), &[10], Answer(vec![-20, -5, 2, 2])).start(&[-20, -5]),
-        case("a start at its limits", &held.iterations(1), &[10], Answer(vec![-5, -20, 2, 2])).start(&[5, -20]),
+        case("a start at its limits", &eased.iterations(1), &[10], Answer(vec![-20, -5, 1, 1])).start(&[-20, -5]),
+        case("a start at its limits", &held.iterations(1), &[10], Answer(vec![-5, -20, 1, 1])).start(&[5, -20]),
         case("the second step above the first", &with_steps(1, &apart), &[10], Accepted),
         case("the second step below the first", &with_steps(1, &[apart[1], apart[0]]), &[10], Accepted),
     ]);
     table
 }
 
-/// M is (8,−4),(−4,8). c is 2.
+/// Two motors and two steps.
+fn motors_by_steps() -> Vec<Case> {
+    let rows: [&[i64]; 3] =
+        [&[-10, -4, -2, -10, 1, 1, 1, 1], &[-15, -4, -2, -15, 2, 2, 2, 2], &[-18, -4, -2, -18, 3, 3, 3, 3]];
+    let mut table = runs("two motors, two steps", &motors_and_steps(), &[10], &rows);
+    // Beside the held ones z and e are those of S with β 8, whose fifth e is 7: q = 6 + 5 + 1 = 12. w is 40, 6, 5, 21.
+    let rows: [&[i64]; 5] = [
+        &[-10, -4, -2, -10, 1, 1, 1, 1],
+        &[-18, -4, -2, -18, 3, 3, 3, 3],
+        &[-20, -4, -2, -20, 4, 4, 4, 4],
+        &[-20, -4, -2, -20, 6, 6, 5, 6],
+        &[-20, -4, -2, -20, 7, 6, 5, 7],
+    ];
+    table.extend(runs("two motors, two steps, β 8", &motors_and_steps().with(MOMENTUM, &[8]), &[10], &rows));
+    let rows: [&[i64]; 3] = [&[10, 2, 3, 1, 1, 1, 1, 1], &[15, 2, 3, 1, 2, 2, 2, 2], &[17, 2, 3, 1, 3, 3, 3, 3]];
+    table.extend(runs("two motors, two steps, upward", &motors_and_steps(), &[-10], &rows));
+    // Limits are those of the command, whichever motor and step it belongs to.
+    let answer = || Answer(rows[2].to_vec());
+    table.push(case("four steps of one motor", &with_steps(1, &FOUR), &[-10], answer()));
+    table.push(case("one step of four motors", &with_steps(4, &FOUR), &[-10], answer()));
+    table
+}
+
+/// M is (8,−4),(−4,8).
 fn coupled_steps() -> Vec<Case> {
-    // h = 10. y = (−15, −3): −8 + 0 − 10 (−7.5, 0.75); 3 − 2 − 10 (3.75, −1.5), held. y = (−27 + 5, −3 + 1):
-    // −11 + 0 − 10 (0.5), held; 5 − 1 − 10 (5.5), held. q: 2 + 1 + 1, 5 + 4 + 1 (3.5); e: 12 × 4 / 16 + 2, then
-    // 12 × 10 / 16 = 7.5 is 8, 8 + 2, and at step 1 w = 7.
-    let rows: [&[i64]; 3] = [&[-10, -2, 2, 2], &[-18, -2, 5, 5], &[-20, -2, 10, 7]];
+    // h = 10. y = (−15, −3): (−120 + 12) / 16 = −6.75 is −7, −7 − 10; (60 − 24) / 16 = 2.25, 2 − 10, held.
+    // y = (−26 + 5, −3 + 1), −26 for −25.5: (−168 + 8) / 16 − 10; (84 − 16) / 16 = 4.25, 4 − 10, held.
+    // y = (−30 + 9, −3 + 1), 9 for 8.5: the same. q: 1 + 1 + 1 (0.5), 4 + 3 + 1 (2.5), 7 + 6 + 1 (5.5).
+    // e: 12 × 3 / 16 = 2.25 is 3, 3 + 1; 12 × 8 / 16 + 1; 12 × 14 / 16 = 10.5 is 11, 11 + 1, and at step 1 w = 7.
+    let rows: [&[i64]; 4] = [&[-10, -2, 1, 1], &[-17, -2, 4, 4], &[-20, -2, 7, 7], &[-20, -2, 12, 7]];
     let mut table = runs("coupled steps", &coupled([(-20, 20), (-2, 5)]), &[10], &rows);
-    // h = 0, from the cold start (0, 8): 0 − 2; 0 + 4, held. y = (−3, 12 − 4): −2 − 2 (−1.5); 0 + 4 (0.75), held.
-    // y = (−6 + 1, 8): −3 − 2 (−2.5); 1 + 4 (1.25), held. w is 4 at step 1. q: 4, 4; 5 + 4 + 1 (3.5), 4 + 3 + 1; e:
-    // 3 + 2; (80 + 32) / 16 + 2, and (40 + 64) / 16 = 6.5 is 7, 7 + 2, held by w.
-    let rows: [&[i64]; 3] = [&[-2, 8, 2, 2], &[-4, 8, 5, 4], &[-5, 8, 9, 4]];
+    // h = 0, from the cold start (0, 8): −32 / 16; 64 / 16, held, as all that follow at step 1.
+    // y = (−3, 12 − 4): (−24 − 32) / 16 = −3.5 is −4. y = (−6 + 1, 8): (−40 − 32) / 16 = −4.5 is −5.
+    // y = (−8 + 2, 8), −8 for −7.5: (−48 − 32) / 16. w is 4 at step 1. q: 3, 3; 8, 8; 14 and 4 + 4 + 1.
+    // e: 4; 7, and at step 1 w; (112 + 36) / 16 = 9.25 is 10, 10 + 1, and w.
+    let rows: [&[i64]; 4] = [&[-2, 8, 1, 1], &[-4, 8, 4, 4], &[-5, 8, 7, 4], &[-5, 8, 11, 4]];
     table.extend(runs("zero outside the second step", &coupled([(-20, 20), (8, 12)]), &[0], &rows));
-    let rows: [&[i64]; 3] = [&[8, -2, 2, 2], &[8, -4, 4, 5], &[8, -5, 4, 9]];
+    let rows: [&[i64]; 4] = [&[8, -2, 1, 1], &[8, -4, 4, 4], &[8, -5, 4, 7], &[8, -5, 4, 11]];
     table.extend(runs("zero outside the first step", &coupled([(8, 12), (-20, 20)]), &[0], &rows));
     table
 }
@@ -459,7 +473,7 @@ fn headroom_of_steps() -> Vec<Case> {
             case(name, &draft, &[10], expect.clone())
         })
     };
-    // Y is 63 + 63 and 20 + 20. In the row of the other step A is 4 × 126 / 16, rounded up to 32, and 8 × 40 / 16 = 20,
+    // Y is 63 + 63 and 20 + 20. In the row of the other step A is (4 × 126 + 8 × 40) / 16 = 51.5, rounded up to 52,
     // which leaves 75 for B, of that row alone.
     let row = |limit: i64, expect: Expect| {
         [([(-63, 63), wide], [0, 16]), ([wide, (-63, 63)], [16, 0])].map(|(limits, gains)| {
@@ -515,7 +529,7 @@ fn step_lines() -> Vec<Case> {
     let no_number = "0400017FF8000000000000\n";
     vec![
         page(Image(image)),
-        Case { state: bytes(&[10]), ..page(Answer(vec![-18, -4, -2, -18, 8, 6, 5, 8])) },
+        Case { state: bytes(&[10]), ..page(Answer(vec![-18, -4, -2, -18, 3, 3, 3, 3])) },
         order("the former layout", &[0, 1, 4, 5]),
         order("motors outermost", &[0, 2, 1, 3, 4, 6, 5, 7]),
         order("lows with motors outermost", &[0, 2, 1, 3, 4, 5, 6, 7]),
@@ -833,7 +847,7 @@ pub fn page_table() -> Table {
         }
     }
     let s = |old: &str, new: &str| SAMPLE.replacen(old, new, 1).into_bytes();
-    let refused: [(Vec<u8>, Number); 25] = [
+    let refused: [(Vec<u8>, Number); 26] = [
         (vec![], 4),
         (b"\n".to_vec(), 1),
         ([SAMPLE, "\n"].concat().into_bytes(), 4),
@@ -859,6 +873,7 @@ pub fn page_table() -> Table {
         (two_steps(9, 8).sheet(), 10),
         (two_steps(8, 7).with(MOMENTUM, &[9]).sheet(), 11),
         (sample().with(STATE_LIMIT, &[118]).sheet(), 12),
+        (sums::sixteen_at_top().sheet(), 12),
     ];
     table.extend(refused.map(|(drive, number)| (folder(&drive), format!("refused {number:02}\n"))));
     table
@@ -879,6 +894,8 @@ pub fn label_table() -> Table {
     let of = |target| both("0000000A\n", target);
     let motors_and_steps = String::from_utf8(motors_and_steps_text()).unwrap();
     let former = String::from_utf8(other_limit_lines(&[0, 1, 4, 5], &[])).unwrap();
+    let halves = String::from_utf8(sums::two_halves_of_b().sheet()).unwrap();
+    let beyond_64_bits = String::from_utf8(sums::sixteen_at_top().sheet()).unwrap();
     let (answer_of_s, refused) = ("FFFFFFEE 00000003\n", "refused 16\n");
     let table = [
         (s(None), answer_of_s),
@@ -886,8 +903,8 @@ pub fn label_table() -> Table {
         (s(Some("00000007\n")), answer_of_s),
         (s(Some("junk\0")), answer_of_s),
         // The cases "S with a target, sweeps 3" and "target -7".
-        (of("00000007\n"), "FFFFFFF5 00000005\n"),
-        (of("FFFFFFF9\n"), "FFFFFFEC 00000005\n"),
+        (of("00000007\n"), "FFFFFFF5 00000003\n"),
+        (of("FFFFFFF9\n"), "FFFFFFEC 00000003\n"),
         (of("00000008\n"), refused),
         (of("fffffff9\n"), refused),
         (of("00000007"), refused),
@@ -909,10 +926,13 @@ pub fn label_table() -> Table {
         // The case "two motors, two steps, sweeps 3".
         (
             folder(&motors_and_steps, "0000000A\n", None),
-            "FFFFFFEE 00000008\nFFFFFFFC 00000006\nFFFFFFFE 00000005\nFFFFFFEE 00000008\n",
+            "FFFFFFEE 00000003\nFFFFFFFC 00000003\nFFFFFFFE 00000003\nFFFFFFEE 00000003\n",
         ),
         (folder(&former, "0000000A\n", None), "refused 02\n"),
         (folder(&former, "", None), "refused 02\n"),
+        // h = 9 + 0.5 + 0.5, as in S.
+        (folder(&halves, "000000090000000100000001\n", None), answer_of_s),
+        (folder(&beyond_64_bits, "", None), "refused 12\n"),
     ];
     table.map(|(folder, text)| (folder, text.to_string())).to_vec()
 }

@@ -1,5 +1,7 @@
-//! The false economies and lazy drives of document 01, and those of requests 1 to 3. Each must be found on the table of
+//! The false economies and lazy drives of document 01, and those of requests 1 to 4. Each must be found on the table of
 //! cases: a comparison that cannot fail is worthless.
+
+mod sums;
 
 use crate::cases;
 use crate::double::{Rounding, of_count};
@@ -85,6 +87,7 @@ fn economies() -> Vec<Economy> {
     economies.extend(with_targets());
     economies.extend(with_other_limits());
     economies.extend(with_other_sheets());
+    economies.extend(sums::economies());
     economies.extend(on_pages());
     economies.extend(without_pages());
     economies
@@ -124,14 +127,7 @@ fn with_targets() -> Vec<Economy> {
         rule("rounds a target table up", Rules { round_target_table_up: true, ..paper }),
         rule("rounds a target limit down", Rules { round_target_limit_down: true, ..paper }),
         rule("takes a target limit below 0", Rules { target_limit_below_zero: true, ..paper }),
-        rule("leaves the target out of B", Rules { headroom_without_targets: true, ..paper }),
-        rule("rounds h once, behind its sum", Rules { linear_term_rounded_once: true, ..paper }),
-        rule("leaves nr out of c", Rules { other_c: Some(|n, nx, _| n.max(nx)), ..paper }),
-        rule("leaves n out of c", Rules { other_c: Some(|_, nx, nr| nx + nr), ..paper }),
-        rule(
-            "takes the largest of n, nx and nr for c",
-            Rules { other_c: Some(|n, nx, nr| n.max(nx).max(nr)), ..paper },
-        ),
+        sums::headroom("leaves the target out of B", sums::without_targets),
         lazy_solve("leaves the target out of h", &[0], |inputs, out| solve_to(inputs, &zero_target(inputs), out)),
         lazy_solve("takes the target with the other sign", &[0], |inputs, out| {
             let negated: Vec<i64> = words(inputs[2]).iter().map(|word| -word).collect();

@@ -1,13 +1,23 @@
-//! The drive before request 3, once more and on its own: document 01 with requests 1 and 2 as plain formulas on raw
-//! words, conversions in floating point. A motor has the same limits at every step.
+//! The drive without one of the requests 3 and 4, once more and on its own: all the rest of document 01 and requests 1
+//! to 4 as plain formulas on raw words, conversions in floating point.
 
 use crate::image::Number;
 
-/// An image's words, found by the former offsets.
+#[derive(Clone, Copy, PartialEq, Eq)]
+pub enum Without {
+    /// A motor has the same limits at every step.
+    Request3,
+    /// Each product is rounded by itself, and so is each term of A and B; c counts them.
+    Request4,
+}
+
+/// An image's words, found by the offsets of that drive.
 pub struct Former {
     pub words: Vec<i64>,
-    motors: usize,
+    without: Without,
     n: usize,
+    /// The number of lows, and of highs.
+    limits: usize,
     states: usize,
     targets: usize,
     one: i128,
@@ -18,15 +28,17 @@ pub struct Former {
 type Lines = (u8, usize, usize, bool);
 
 impl Former {
-    pub fn new(words: Vec<i64>) -> Former {
+    pub fn new(words: Vec<i64>, without: Without) -> Former {
         let [motors, steps, states, targets] = [0, 1, 2, 6].map(|i| words[i] as usize);
         let (one, top) = (1 << words[3], (1 << (words[4] - 1)) - 1);
-        Former { words, motors, n: motors * steps, states, targets, one, top }
+        let n = motors * steps;
+        let limits = if without == Without::Request3 { motors } else { n };
+        Former { words, without, n, limits, states, targets, one, top }
     }
 
-    /// A sheet that the former drive accepts, with its page, or the number of its refusal.
+    /// A sheet that the drive without request 3 accepts, with its page, or the number of its refusal.
     pub fn read(sheet: &[u8]) -> Result<(Former, String), Number> {
-        let mut former = Former::new(sizes(&frame(sheet, 0)?)?);
+        let mut former = Former::new(sizes(&frame(sheet, 0)?)?, Without::Request3);
         let (mut page, mut line) = (String::new(), 0);
         for (kind, rows, columns, up) in former.layout() {
             for (row, column) in pairs(rows, columns) {
@@ -53,12 +65,12 @@ impl Former {
     }
 
     fn layout(&self) -> [Lines; 8] {
-        let &Former { motors, n, states, targets, .. } = self;
+        let &Former { n, limits, states, targets, .. } = self;
         [
             (2, n, n, false),
             (3, n, states, false),
-            (4, motors, 1, true),
-            (5, motors, 1, false),
+            (4, limits, 1, true),
+            (5, limits, 1, false),
             (6, 1, 1, true),
             (7, states, 1, true),
             (8, n, targets, false),
@@ -97,7 +109,7 @@ impl Former {
     fn gain(&self, i: usize, j: usize) -> i128 {
         match j.checked_sub(self.states) {
             None => self.word(8 + self.n * self.n + i * self.states + j),
-            Some(j) => self.behind(2 * self.motors + 1 + self.states + i * self.targets + j),
+            Some(j) => self.behind(2 * self.limits + 1 + self.states + i * self.targets + j),
         }
     }
 
@@ -107,28 +119,44 @@ impl Former {
     }
 
     fn low(&self, k: usize) -> i128 {
-        self.behind(k % self.motors)
+        self.behind(k % self.limits)
     }
 
     fn high(&self, k: usize) -> i128 {
-        self.behind(self.motors + k % self.motors)
+        self.behind(self.limits + k % self.limits)
     }
 
     fn beta(&self) -> i128 {
-        self.behind(2 * self.motors)
+        self.behind(2 * self.limits)
     }
 
     fn input_limit(&self, j: usize) -> i128 {
         let table = if j < self.states { 0 } else { self.n * self.targets };
-        self.behind(2 * self.motors + 1 + table + j)
+        self.behind(2 * self.limits + 1 + table + j)
     }
 
-    fn floor(&self, product: i128) -> i128 {
-        product.div_euclid(self.one)
+    fn floor(&self, value: i128) -> i128 {
+        value.div_euclid(self.one)
     }
 
-    fn ceil(&self, product: i128) -> i128 {
-        -(-product).div_euclid(self.one)
+    fn ceil(&self, value: i128) -> i128 {
+        -(-value).div_euclid(self.one)
+    }
+
+    /// A row's terms over 2^b: rounded once, or without request 4 one by one.
+    fn sum(&self, count: usize, term: impl Fn(usize) -> i128, round: fn(&Former, i128) -> i128) -> i128 {
+        let terms = (0..count).map(term);
+        match self.without {
+            Without::Request3 => round(self, terms.sum()),
+            Without::Request4 => terms.map(|term| round(self, term)).sum(),
+        }
+    }
+
+    fn c(&self) -> i128 {
+        match self.without {
+            Without::Request3 => 1,
+            Without::Request4 => self.n.max(self.inputs()) as i128,
+        }
     }
 
     /// The first of 5, for a word beyond top, and of 7 to 12 that is due, or 0.
@@ -154,25 +182,25 @@ impl Former {
         let largest = |k| self.low(k).abs().max(self.high(k).abs());
         let p = |k| largest(k) + self.ceil(self.beta() * largest(k));
         let y = |k| largest(k) + self.ceil(self.beta() * (self.high(k) - self.low(k)));
-        let a = |i| (0..n).map(|j| self.ceil(self.m(i, j).abs() * y(j))).sum::<i128>();
-        let b = |i| (0..self.inputs()).map(|j| self.ceil(self.gain(i, j).abs() * self.input_limit(j))).sum::<i128>();
+        let a = |i| self.sum(n, |j| self.m(i, j).abs() * y(j), Former::ceil);
+        let b = |i| self.sum(self.inputs(), |j| self.gain(i, j).abs() * self.input_limit(j), Former::ceil);
         (0..n).any(|k| p(k) > top || y(k) > top || a(k) + b(k) > top)
     }
 
     /// An accepted image's commands, then its bounds, for the state and the target in one list.
     pub fn answer(&self, inputs: &[i64], start: &[i64]) -> Vec<i64> {
-        let (n, c) = (self.n, self.n.max(self.inputs()) as i128);
-        let h = |i| (0..self.inputs()).map(|j| self.floor(self.gain(i, j) * inputs[j] as i128)).sum::<i128>();
+        let n = self.n;
+        let h = |i| self.sum(self.inputs(), |j| self.gain(i, j) * inputs[j] as i128, Former::floor);
         let h: Vec<i128> = (0..n).map(h).collect();
         let mut z: Vec<i128> = start.iter().map(|&word| word as i128).collect();
         let (mut y, mut e, mut q) = (z.clone(), vec![0; n], vec![0; n]);
         for _ in 0..self.words[5] {
             let (old_z, old_e) = (z.clone(), e.clone());
             for i in 0..n {
-                let t = (0..n).map(|j| self.floor(self.m(i, j) * y[j])).sum::<i128>() - h[i];
+                let t = self.sum(n, |j| self.m(i, j) * y[j], Former::floor) - h[i];
                 z[i] = t.min(self.high(i)).max(self.low(i));
                 let spread = (0..n).map(|j| self.m(i, j).abs() * q[j]).sum();
-                e[i] = (self.ceil(spread) + c).min(self.high(i) - self.low(i));
+                e[i] = (self.ceil(spread) + self.c()).min(self.high(i) - self.low(i));
             }
             for i in 0..n {
                 y[i] = self.floor((self.one + self.beta()) * z[i]) - self.floor(self.beta() * old_z[i]);

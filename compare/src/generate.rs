@@ -2,6 +2,7 @@
 
 use crate::double::{Rounding, of_count};
 use crate::draft::{Draft, keep_former, text};
+use crate::edges;
 use crate::image::{
     COST, GAIN, HIGH, LOW, MOMENTUM, Number, STATE_LIMIT, Sizes, TARGET_GAIN, TARGET_LIMIT, bytes, momentum_fits,
 };
@@ -55,9 +56,13 @@ impl Plan {
         self.numbers.contains(&number)
     }
 
-    /// nr: half of the problems are without targets, but for those that are to meet 16.
-    fn targets(&self, random: &mut Random) -> usize {
-        random.pick(if self.has(16) { &[0, 1, 2, 3, 4] } else { &[0, 0, 0, 0, 1, 2, 3, 4] })
+    /// Half of the problems are without targets, but for those that are to meet 16.
+    fn sizes(&self, random: &mut Random) -> Sizes {
+        let targets = random.pick(if self.has(16) { &[0, 1, 2, 3, 4][..] } else { &[0, 0, 0, 0, 1, 2, 3, 4] });
+        let sizes = sizes(random, targets);
+        // Sums beyond 64 bits need the widest words.
+        let width = if self.has(12) && random.one_in(3) { 32 } else { sizes.width };
+        Sizes { width, ..sizes }
     }
 }
 
@@ -186,8 +191,7 @@ fn limits_of_steps(random: &mut Random, most: i64, steps: usize, course: Course)
 }
 
 /// A problem that every check accepts.
-fn accepted(random: &mut Random, targets: usize) -> Draft {
-    let sizes = sizes(random, targets);
+fn accepted(random: &mut Random, sizes: Sizes) -> Draft {
     let (one, top) = (sizes.one(), sizes.top());
     let mut draft = Draft::new(sizes);
     let table = cost_table(random, &sizes);
@@ -207,7 +211,8 @@ fn accepted(random: &mut Random, targets: usize) -> Draft {
     if random.one_in(16) {
         inputs_at_top(random, &mut draft);
     }
-    if random.one_in(3) {
+    let reached = random.one_in(6) && edges::reach(random, &mut draft);
+    if !reached && random.one_in(3) {
         at_headroom(random, &mut draft, 0);
     }
     assert_eq!(draft.problem().check(), Ok(()));
@@ -304,15 +309,31 @@ fn spoil_tables(random: &mut Random, draft: &mut Draft, number: Number) {
             let entry = &mut draft.section(COST)[row * n + column];
             *entry = random.pick(&[*entry + 1, *entry - 1, -*entry]).clamp(-top, top);
         }
-        9 => draft.section(COST)[row * (n + 1)] = (radius - more).max(-top),
-        10 => draft.section(COST)[row * (n + 1)] = (one - radius + 1 + more).min(top),
+        // With many large words, M y and A would be far beyond the word.
+        9 if random.one_in(8) => draft.section(COST).fill(top * random.sign()),
+        9 => draft.section(COST)[row * (n + 1)] = (radius - more).clamp(-top, top),
+        10 => draft.section(COST)[row * (n + 1)] = (one - radius + 1 + more).clamp(-top, top),
         11 => {
             let least = least_momentum(draft);
             let words = [least - 1, least - 1, -1, one, one + more, -more, top, -top];
             draft.section(MOMENTUM)[0] = random.pick(&words);
         }
-        12 => at_headroom(random, draft, 1),
+        12 => spoil_headroom(random, draft),
         _ => {}
+    }
+}
+
+/// Provokes 12: a word too large by one, or a sum of B that is too large by itself.
+fn spoil_headroom(random: &mut Random, draft: &mut Draft) {
+    // Another number provoked before may have left no room to count from.
+    let fit = draft.problem().check().is_ok();
+    let done = match random.below(4) {
+        0 => fit && edges::pass(random, draft),
+        1 | 2 => fit && edges::overflow(random, draft),
+        _ => false,
+    };
+    if !done {
+        at_headroom(random, draft, 1);
     }
 }
 
@@ -380,8 +401,18 @@ pub fn other_size(random: &mut Random, size: usize) -> usize {
 
 /// An image with its state, target and start, spoilt as planned.
 pub fn solve_case(random: &mut Random, plan: &Plan) -> SolveCase {
-    let targets = plan.targets(random);
-    let mut draft = accepted(random, targets);
+    let sizes = plan.sizes(random);
+    case_of_sizes(random, plan, sizes)
+}
+
+/// The same with one command and one input: every sum has one term.
+pub fn single_case(random: &mut Random, plan: &Plan) -> SolveCase {
+    let sizes = Sizes { motors: 1, steps: 1, states: 1, targets: 0, ..plan.sizes(random) };
+    case_of_sizes(random, plan, sizes)
+}
+
+fn case_of_sizes(random: &mut Random, plan: &Plan, sizes: Sizes) -> SolveCase {
+    let mut draft = accepted(random, sizes);
     for &number in &plan.numbers {
         spoil_tables(random, &mut draft, number);
     }
@@ -400,7 +431,7 @@ pub fn solve_case(random: &mut Random, plan: &Plan) -> SolveCase {
         match random.below(8) {
             0 => damage(random, &mut state),
             1 => damage(random, &mut start),
-            2 if targets > 0 => damage(random, &mut target),
+            2 if sizes.targets > 0 => damage(random, &mut target),
             _ => damage(random, &mut image),
         }
     }
@@ -538,8 +569,8 @@ pub fn edge_doubles(bits: u32, width: u32) -> Vec<u64> {
 
 /// A sheet's frames, spoilt as planned, and the draft they were made from.
 fn frames_of(random: &mut Random, plan: &Plan) -> (Draft, Vec<Frame>) {
-    let targets = plan.targets(random);
-    let mut draft = accepted(random, targets);
+    let sizes = plan.sizes(random);
+    let mut draft = accepted(random, sizes);
     for &number in &plan.numbers {
         spoil_tables(random, &mut draft, number);
     }

@@ -5,6 +5,7 @@ use std::fs::File;
 use std::os::unix::fs::FileExt;
 
 use crate::drive::{Call, Drive, Kind, Outcome, outcome};
+use crate::edges;
 use crate::image::{HEADER_WORDS, Number, Problem, Sizes, words};
 use crate::page::{self, PAGE_LINE};
 use crate::rules::Rules;
@@ -91,6 +92,8 @@ pub struct Harness<'a> {
     pub targets: BTreeSet<(i64, i64)>,
     /// The nu and N of those whose limits change from step to step.
     pub changing: BTreeSet<(i64, i64)>,
+    /// How often a random solve lay at an edge of check 12, or was another than before request 4.
+    pub edges: BTreeMap<&'static str, u64>,
     /// The kinds of accepted pages by their last digit, and the marks.
     pub marks: BTreeSet<(u8, u8)>,
     /// The group and index under way; also in a file, for whoever finds the program crashed.
@@ -111,6 +114,7 @@ impl<'a> Harness<'a> {
             formats: BTreeSet::new(),
             targets: BTreeSet::new(),
             changing: BTreeSet::new(),
+            edges: BTreeMap::new(),
             marks: BTreeSet::new(),
             place: ("", 0),
             place_file,
@@ -139,6 +143,7 @@ impl<'a> Harness<'a> {
         self.meet(call.kind.name(), expected.number);
         match (call.kind, &expected.written) {
             (Kind::Solve, Some(_)) => self.cover_solve(&call.inputs[0]),
+            (Kind::Solve, None) if expected.number == 12 => self.cover_edges(&problem_of(&call.inputs[0])),
             (Kind::Page, Some(page)) => self.cover_page(page),
             _ => {}
         }
@@ -148,15 +153,26 @@ impl<'a> Harness<'a> {
     }
 
     fn cover_solve(&mut self, image: &[u8]) {
-        let words = words(image);
-        let (header, body) = words.split_at(HEADER_WORDS);
+        let problem = problem_of(image);
+        let header = problem.sizes.words();
         self.sizes.insert(header[..3].to_vec());
         self.formats.insert(header[3..5].to_vec());
         self.targets.insert((header[0] * header[1], header[6]));
-        let sizes = Sizes::of_words(header).expect("the image is accepted");
-        if Problem::new(sizes, body, Rules::default()).limits_change() {
+        if problem.limits_change() {
             self.changing.insert((header[0], header[1]));
         }
+        self.cover_edges(&problem);
+    }
+
+    /// The table of cases has every edge, so that it would hide one that the generator never finds.
+    fn cover_edges(&mut self, problem: &Problem) {
+        if self.place.0 != "cases" {
+            edges::of_problem(problem).into_iter().for_each(|edge| self.meet_edge(edge));
+        }
+    }
+
+    pub fn meet_edge(&mut self, edge: &'static str) {
+        *self.edges.entry(edge).or_insert(0) += 1;
     }
 
     fn cover_page(&mut self, page: &[u8]) {
@@ -186,6 +202,13 @@ impl<'a> Harness<'a> {
             println!("further failures are only counted\n");
         }
     }
+}
+
+/// What the tables of an image say whose sizes and length are right.
+fn problem_of(image: &[u8]) -> Problem {
+    let words = words(image);
+    let (header, body) = words.split_at(HEADER_WORDS);
+    Problem::new(Sizes::of_words(header).expect("the sizes are right"), body, Rules::default())
 }
 
 fn describe(call: &Call, expected: &Outcome, observed: &Result<Outcome, String>) -> String {

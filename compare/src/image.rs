@@ -3,7 +3,7 @@
 use std::ops::Index;
 
 use crate::double::Rounding::{self, Down, Up};
-use crate::rules::{Rules, Use};
+use crate::rules::{Row, Rules, Use};
 
 /// The number of a refusal; 0 where a call is accepted.
 pub type Number = u32;
@@ -302,37 +302,58 @@ impl Problem {
     }
 
     /// Over 2^b, rounded up.
-    fn up(&self, product: i128) -> i128 {
-        -(-product >> self.sizes.bits)
+    pub fn up(&self, value: i128) -> i128 {
+        -(-value >> self.sizes.bits)
     }
 
     /// Number 12. Whole in itself, so that generators can ask it about tables that other checks refuse.
     pub fn leaves_headroom(&self) -> bool {
+        let Some(points) = self.point_bounds() else {
+            return true;
+        };
+        let top = self.sizes.top() as i128;
+        (0..self.sizes.commands()).any(|k| self.row_bound(k, &points) > top)
+    }
+
+    /// Y of every command, unless a P or a Y is above top.
+    pub fn point_bounds(&self) -> Option<Vec<i64>> {
         let (top, momentum) = (self.sizes.top() as i128, self.momentum as i128);
-        let mut point_bounds = Vec::new();
-        for k in 0..self.lower.len() {
+        let point_bound = |k| {
             let (low, high) = self.limits(Use::Magnitude, k);
             let largest = low.abs().max(high.abs()) as i128;
             let product_bound = largest + self.up(momentum * largest);
             let point_bound = largest + self.up(momentum * self.width(Use::Spread, k) as i128);
-            if product_bound > top || point_bound > top {
-                return true;
-            }
-            point_bounds.push(point_bound);
-        }
-        let mut input_bounds: Vec<i128> = self.input_limits.iter().map(|&limit| limit as i128).collect();
-        if self.rules.headroom_without_targets {
-            input_bounds.truncate(self.sizes.states);
-        }
-        let mut rows = self.descent.rows().zip(self.gains.rows());
-        rows.any(|(descent, gains)| self.row_bound(descent, &point_bounds) + self.row_bound(gains, &input_bounds) > top)
+            (product_bound <= top && point_bound <= top).then_some(point_bound as i64)
+        };
+        (0..self.sizes.commands()).map(point_bound).collect()
     }
 
-    /// A, or B: each term is rounded up.
-    fn row_bound(&self, row: &[i64], bounds: &[i128]) -> i128 {
-        let terms = row.iter().zip(bounds).map(|(&entry, bound)| self.up(entry.abs() as i128 * bound));
-        terms.sum()
+    /// A + B of a row: two sums, each rounded up once.
+    fn row_bound(&self, k: usize, points: &[i64]) -> i128 {
+        if let Some(other) = self.rules.other_headroom {
+            return other(self, k);
+        }
+        let [a, b] = self.headroom_sums(k, points);
+        self.up(a) + self.up(b)
     }
+
+    /// A and B of a row, undivided. In a refused image B can pass 2^65, so these sums are wider than the drive's.
+    pub fn headroom_sums(&self, k: usize, points: &[i64]) -> [i128; 2] {
+        let magnitudes = |row, bounds| products(row, bounds).map(i128::abs).sum();
+        [magnitudes(&self.descent[k], points), magnitudes(&self.gains[k], &self.input_limits)]
+    }
+
+    /// A row's products with some values for y and for the inputs, or with their bounds.
+    pub fn row(&self, k: usize, points: &[i64], inputs: &[i64]) -> Row {
+        let mut states: Vec<i128> = products(&self.gains[k], inputs).collect();
+        let targets = states.split_off(self.sizes.states);
+        Row { commands: products(&self.descent[k], points).collect(), states, targets, bits: self.sizes.bits }
+    }
+}
+
+/// The products of a row and a list of values, undivided.
+pub fn products(row: &[i64], values: &[i64]) -> impl Iterator<Item = i128> {
+    row.iter().zip(values).map(|(&entry, &value)| entry as i128 * value as i128)
 }
 
 /// Check 11 for a least margin and a largest total.

@@ -1,4 +1,4 @@
-//! The second program: document 01 with requests 1 to 3 implemented on its own, beside the static library, the label
+//! The second program: document 01 with requests 1 to 4 implemented on its own, beside the static library, the label
 //! program and the page program.
 
 mod big;
@@ -7,6 +7,7 @@ mod double;
 mod draft;
 mod drive;
 mod economies;
+mod edges;
 mod former;
 mod generate;
 mod harness;
@@ -34,8 +35,8 @@ compare --label and compare --page act as the label and the page program in the 
 /// Random solves of a run; the other groups are in proportion.
 const COUNT: u64 = 100_000;
 const LONG_COUNT: u64 = 20 * COUNT;
-/// From this count on a run has to have met every number of every call, every size, every nr with every n, and
-/// limits that change along every N.
+/// From this count on a run has to have met every number of every call, every size, every nr with every n, limits that
+/// change along every N, every edge of check 12, and all that request 4 changes.
 const COVERING_COUNT: u64 = 20_000;
 
 struct Options {
@@ -167,6 +168,15 @@ fn require_cover(harness: &mut Harness) {
             harness.check(met[number as usize] > 0, || format!("  {call} never answered {number}"));
         }
     }
+    require_problems(harness);
+    for edge in edges::EDGES.into_iter().chain(trials::CHANGES) {
+        let met = harness.edges.get(edge).copied().unwrap_or(0);
+        println!("random solves, {edge}: {met}");
+        harness.check(met > 0, || format!("  no random solve: {edge}"));
+    }
+}
+
+fn require_problems(harness: &mut Harness) {
     let covered = [harness.sizes.len(), harness.formats.len(), harness.targets.len()];
     let [sizes, formats, targets] = covered;
     println!("accepted solves: {sizes} of 396 sizes, {formats} of 320 pairs of b and W, {targets} of 80 of n and nr");

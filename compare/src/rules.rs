@@ -1,7 +1,7 @@
-//! Where a false economy departs from the rules of document 01 and requests 1 and 3; those of request 2 change the page
-//! alone.
+//! Where a false economy departs from the rules of document 01 and requests 1, 3 and 4; those of request 2 change the
+//! page alone.
 
-use crate::image::Sizes;
+use crate::image::{Problem, Sizes};
 
 /// Where a command's limits count.
 #[derive(Clone, Copy, PartialEq, Eq)]
@@ -23,21 +23,32 @@ pub enum Use {
 /// The command whose limits stand in for those of a command.
 pub type Other = fn(usize, &Sizes) -> usize;
 
+/// A row's products, undivided: those of M y with those of h, or of A with those of B.
+pub struct Row {
+    pub commands: Vec<i128>,
+    pub states: Vec<i128>,
+    pub targets: Vec<i128>,
+    pub bits: u32,
+}
+
 /// The default is the papers' rules.
 #[derive(Clone, Copy, Default)]
 pub struct Rules {
     pub round_toward_zero: bool,
     pub round_low_limit_down: bool,
     pub momentum_from_unclamped: bool,
+    pub y_rounded_once: bool,
     pub first_q_is_one: bool,
     pub width_left_out: bool,
     pub round_target_table_up: bool,
     pub round_target_limit_down: bool,
     pub target_limit_below_zero: bool,
-    pub headroom_without_targets: bool,
-    pub linear_term_rounded_once: bool,
-    /// Another c of n, nx and nr.
-    pub other_c: Option<fn(usize, usize, usize) -> usize>,
+    /// Another c of n and of nx + nr.
+    pub other_c: Option<fn(usize, usize) -> usize>,
+    /// Another t of a row's products.
+    pub other_t: Option<fn(&Row) -> i128>,
+    /// Another A + B of a row, behind the tests of P and Y.
+    pub other_headroom: Option<fn(&Problem, usize) -> i128>,
     /// Another command's limits in some uses.
     pub other_limits: Option<(&'static [Use], Other)>,
 }

@@ -1,12 +1,13 @@
 //! One solve: the rounded scheme, its error bound, and the exact scheme beside them.
 
 use crate::big::Big;
-use crate::image::{Number, Problem, Sizes, bytes, open, words};
+use crate::image::{Number, Problem, Sizes, bytes, open, products, words};
 use crate::rules::{Rules, Use};
 
 /// The rounded scheme. Sums are exact, so the order in which document 01 takes them is left to the drive.
 pub struct Rounded<'a> {
     problem: &'a Problem,
+    inputs: Vec<i64>,
     /// h.
     pub linear: Vec<i64>,
     pub t: Vec<i64>,
@@ -17,40 +18,56 @@ pub struct Rounded<'a> {
 impl<'a> Rounded<'a> {
     /// The inputs are the state, then the target.
     pub fn new(problem: &'a Problem, inputs: &[i64], start: &[i64]) -> Rounded<'a> {
-        let mut scheme =
-            Rounded { problem, linear: Vec::new(), t: start.to_vec(), z: start.to_vec(), y: start.to_vec() };
-        scheme.linear = problem.gains.rows().map(|row| scheme.linear_term(row, inputs)).collect();
+        let (t, z, y) = (start.to_vec(), start.to_vec(), start.to_vec());
+        let mut scheme = Rounded { problem, inputs: inputs.to_vec(), linear: Vec::new(), t, z, y };
+        scheme.linear = problem.gains.rows().map(|row| scheme.sum(row, inputs)).collect();
         scheme
     }
 
-    fn linear_term(&self, row: &[i64], inputs: &[i64]) -> i64 {
-        if self.problem.rules.linear_term_rounded_once {
-            return undivided(row, inputs) >> self.problem.sizes.bits;
-        }
-        self.terms(row, inputs).sum()
-    }
-
-    /// A product of two words over 2^b, rounded toward minus infinity.
-    pub fn product(&self, a: i64, b: i64) -> i64 {
+    /// Over 2^b, rounded toward minus infinity.
+    fn down(&self, value: i128) -> i64 {
         let sizes = &self.problem.sizes;
-        if self.problem.rules.round_toward_zero { a * b / sizes.one() } else { (a * b) >> sizes.bits }
+        let quotient =
+            if self.problem.rules.round_toward_zero { value / sizes.one() as i128 } else { value >> sizes.bits };
+        quotient as i64
     }
 
-    pub fn terms<'b>(&'b self, row: &'b [i64], vector: &'b [i64]) -> impl Iterator<Item = i64> + 'b {
-        row.iter().zip(vector).map(|(&a, &b)| self.product(a, b))
+    /// A product of two words, rounded by itself: those of the y step alone are.
+    pub fn product(&self, a: i64, b: i64) -> i64 {
+        self.down(a as i128 * b as i128)
+    }
+
+    /// A row of M y, or of h: its products are added undivided, and the sum is rounded once.
+    pub fn sum(&self, row: &[i64], values: &[i64]) -> i64 {
+        self.down(products(row, values).sum())
+    }
+
+    /// The difference of two rounded sums.
+    fn gradient_step(&self, k: usize) -> i64 {
+        match self.problem.rules.other_t {
+            Some(other) => other(&self.problem.row(k, &self.y, &self.inputs)) as i64,
+            None => self.sum(&self.problem.descent[k], &self.y) - self.linear[k],
+        }
     }
 
     pub fn step(&mut self) {
         let problem = self.problem;
-        let (one, momentum) = (problem.sizes.one(), problem.momentum);
-        let rows = problem.descent.rows().zip(&self.linear);
-        self.t = rows.map(|(row, linear)| self.terms(row, &self.y).sum::<i64>() - linear).collect();
+        self.t = (0..self.z.len()).map(|k| self.gradient_step(k)).collect();
         for k in 0..self.z.len() {
             let old = self.z[k];
             self.z[k] = held(self.t[k], problem.limits(Use::Sweep, k));
             let new = if problem.rules.momentum_from_unclamped { self.t[k] } else { self.z[k] };
-            self.y[k] = self.product(one + momentum, new) - self.product(momentum, old);
+            self.y[k] = self.point(new, old);
         }
+    }
+
+    /// y: two products, each rounded.
+    fn point(&self, new: i64, old: i64) -> i64 {
+        let (one, momentum) = (self.problem.sizes.one(), self.problem.momentum);
+        if self.problem.rules.y_rounded_once {
+            return self.down(((one + momentum) * new - momentum * old) as i128);
+        }
+        self.product(one + momentum, new) - self.product(momentum, old)
     }
 }
 
@@ -70,11 +87,10 @@ impl<'a> ErrorBound<'a> {
         ErrorBound { problem, e: zeros.clone(), previous: zeros, point: first }
     }
 
-    /// c.
+    /// c. M y and h are both rounded down, and t is their difference: it is less than 1 off.
     fn rounding(&self) -> i64 {
-        let (n, Sizes { states, targets, .. }) = (self.problem.sizes.commands(), self.problem.sizes);
-        let c = self.problem.rules.other_c.unwrap_or(|n, nx, nr| n.max(nx + nr));
-        c(n, states, targets) as i64
+        let Sizes { states, targets, .. } = self.problem.sizes;
+        self.problem.rules.other_c.map_or(1, |c| c(self.problem.sizes.commands(), states + targets) as i64)
     }
 
     fn up(&self, product: i64) -> i64 {
@@ -111,7 +127,8 @@ impl<'a> Exact<'a> {
     pub fn new(problem: &'a Problem, inputs: &[i64], start: &[i64]) -> Exact<'a> {
         Exact {
             problem,
-            linear: problem.gains.rows().map(|row| undivided(row, inputs)).collect(),
+            // By its headroom an accepted row's sum is at most top × 2^b.
+            linear: problem.gains.rows().map(|row| products(row, inputs).sum::<i128>() as i64).collect(),
             scale: Big::new(1),
             commands: start.iter().map(|&z| Big::new(z)).collect(),
             point: start.iter().map(|&z| Big::new(z).times(problem.sizes.one())).collect(),
@@ -146,11 +163,6 @@ impl<'a> Exact<'a> {
         let difference = self.scale.times(z).minus(&self.commands[k]);
         difference.magnitude().at_most(&self.scale.times(e))
     }
-}
-
-/// An accepted row's products all together stay below top × 2^b, by its headroom.
-fn undivided(row: &[i64], inputs: &[i64]) -> i64 {
-    row.iter().zip(inputs).map(|(a, b)| a * b).sum()
 }
 
 /// Not clamp, which stops at limits that cross: a false economy may let them pass.

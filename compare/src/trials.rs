@@ -9,10 +9,12 @@ use crate::double::{self, Rounding};
 use crate::draft::Draft;
 use crate::drive::{Call, Kind};
 use crate::economies;
-use crate::former::Former;
+use crate::former::{Former, Without};
 use crate::generate::{self, Plan, SolveCase};
 use crate::harness::{Harness, Lent};
-use crate::image::{HEADER_WORDS, Number, Problem, Sizes, bytes, sizes_of_word_fit, top, words};
+use crate::image::{
+    GAIN, HEADER_WORDS, Number, Problem, STATE_LIMIT, Sizes, bytes, products, sizes_of_word_fit, top, words,
+};
 use crate::label;
 use crate::page::{self, PAGE_LINE};
 use crate::process::Program;
@@ -171,7 +173,7 @@ fn damaged(buffer: &[u8], index: usize) -> Vec<Vec<u8>> {
     (0..=255).map(with).chain([buffer[..index].to_vec()]).collect()
 }
 
-/// Demand 3 tried: every sweep beside the exact scheme, and the drive's answers for fewer sweeps.
+/// Demand 3 tried with request 4: every sweep beside the exact scheme, and the drive's answers for fewer sweeps.
 fn demand3(harness: &mut Harness, index: u64, random: &mut Random) {
     let SolveCase { mut draft, state, target, start, .. } = generate::solve_case(random, &Plan::nothing());
     if index.is_multiple_of(50) {
@@ -205,27 +207,28 @@ fn in_word(problem: &Problem, value: i64) -> bool {
     value.abs() <= problem.sizes.top()
 }
 
-/// Are all sums of neighbouring terms within the word? Each is a difference of two sums from the first term on.
-fn sums_in_range(problem: &Problem, terms: impl Iterator<Item = i64>) -> bool {
-    let (mut sum, mut least, mut largest) = (0i64, 0, 0);
-    for term in terms {
-        sum += term;
-        least = least.min(sum);
-        largest = largest.max(sum);
-    }
-    in_word(problem, largest - least)
+/// Are all sums of neighbouring terms within signed 64 bits?
+fn sums_in_range(mut terms: impl Iterator<Item = i128>) -> bool {
+    // The least and the largest sum that ends with the term.
+    let (mut least, mut largest) = (0, 0);
+    terms.all(|term| {
+        least = term + least.min(0);
+        largest = term + largest.max(0);
+        i64::try_from(least).is_ok() && i64::try_from(largest).is_ok()
+    })
 }
 
-/// A row of h has the products of the state, then those of the target; a running sum may reach from one to the other.
+/// The rows of h: a running sum may reach from the products of the state to those of the target.
 fn linear_in_range(problem: &Problem, rounded: &Rounded, inputs: &[i64]) -> bool {
-    problem.gains.rows().all(|row| sums_in_range(problem, rounded.terms(row, inputs)))
+    problem.gains.rows().all(|row| sums_in_range(products(row, inputs)))
+        && rounded.linear.iter().all(|&h| in_word(problem, h))
 }
 
-/// The products of a sweep about to be made.
+/// The rows of M y and the product of the old commands in a sweep about to be made.
 fn products_in_range(problem: &Problem, rounded: &Rounded) -> bool {
+    let row = |row| sums_in_range(products(row, &rounded.y)) && in_word(problem, rounded.sum(row, &rounded.y));
     let old = |&z: &i64| in_word(problem, rounded.product(problem.momentum, z));
-    problem.descent.rows().all(|row| sums_in_range(problem, rounded.terms(row, &rounded.y)))
-        && rounded.z.iter().all(old)
+    problem.descent.rows().all(row) && rounded.z.iter().all(old)
 }
 
 /// The iterates that a sweep left, with the product of its new commands.
@@ -242,11 +245,14 @@ fn is_near(rounded: &Rounded, bound: &ErrorBound, exact: &Exact) -> bool {
     (0..rounded.z.len()).all(|k| exact.is_near(k, rounded.z[k], bound.e[k]))
 }
 
-/// Request 3 beside the drive before it.
+/// Requests 3 and 4 beside the drive without the one, and without the other.
 fn former(harness: &mut Harness, index: u64, random: &mut Random) {
     one_step(harness, index, random);
     former_layout(harness, random);
     same_limits(harness, index, random);
+    let plan = if index.is_multiple_of(2) { Plan::nothing() } else { Plan::only(random.between(7, 12) as Number) };
+    rounded_terms(harness, &generate::solve_case(random, &plan));
+    rounded_terms(harness, &generate::single_case(random, &plan));
 }
 
 /// A sheet with N 1, accepted or not, reads as before.
@@ -300,15 +306,67 @@ fn same_limits(harness: &mut Harness, index: u64, random: &mut Random) {
     let number = random.between(7, 12) as Number;
     let plan = if index.is_multiple_of(2) { Plan::nothing() } else { Plan::only(number) };
     let case = first(|| generate::solve_case(random, &plan), |case| !case.draft.problem().limits_change());
-    let former = Former::new(case.draft.former_words());
-    let expected = match former.number() {
-        0 => Ok(bytes(&former.answer(&[words(&case.state), words(&case.target)].concat(), &words(&case.start)))),
-        number => Err(number),
-    };
+    let expected = former_answer(&case, Former::new(case.draft.former_words(), Without::Request3));
+    let found = answer(harness, &case);
+    harness.check(found == expected, || format!("  the drive without request 3 answered {expected:?}"));
+}
+
+fn answer(harness: &mut Harness, case: &SolveCase) -> Result<Vec<u8>, Number> {
     let lent: [&[u8]; 4] = [&case.image, &case.state, &case.target, &case.start];
     let outcome = harness.compare(&Call::on_buffers(Kind::Solve, &lent, 8 * case.draft.sizes.commands()));
-    let found = outcome.written.ok_or(outcome.number);
-    harness.check(found == expected, || format!("  the former drive answered {expected:?}"));
+    outcome.written.ok_or(outcome.number)
+}
+
+fn former_answer(case: &SolveCase, former: Former) -> Result<Vec<u8>, Number> {
+    match former.number() {
+        0 => Ok(bytes(&former.answer(&[words(&case.state), words(&case.target)].concat(), &words(&case.start)))),
+        number => Err(number),
+    }
+}
+
+/// What request 4 changes, and a run has to meet.
+pub const CHANGES: [&str; 3] = [
+    "accepted, 12 before request 4",
+    "accepted, other commands before request 4",
+    "accepted, larger bounds before request 4",
+];
+
+/// Request 4 beside the drive without it. Where every sum has one term, nothing changes.
+fn rounded_terms(harness: &mut Harness, case: &SolveCase) {
+    let former = former_answer(case, Former::new(case.draft.words(), Without::Request4));
+    let found = answer(harness, case);
+    let Sizes { states, targets, .. } = case.draft.sizes;
+    let single = case.draft.sizes.commands() == 1 && states + targets == 1;
+    let holds = former == found || !single && is_change(harness, &former, &found);
+    harness.check(holds, || format!("  not a change of request 4: without it the drive answered {former:?}"));
+}
+
+/// What was accepted still is, no bound is larger, and of the numbers 12 alone may go.
+fn is_change(harness: &mut Harness, former: &Result<Vec<u8>, Number>, found: &Result<Vec<u8>, Number>) -> bool {
+    let [refused, commands, bounds] = CHANGES;
+    match (former, found) {
+        (Err(12), Ok(_)) => {
+            harness.meet_edge(refused);
+            true
+        }
+        (Ok(former), Ok(found)) => {
+            let ((old_z, old_e), (new_z, new_e)) = (halves(former), halves(found));
+            for (change, met) in [(commands, old_z != new_z), (bounds, old_e != new_e)] {
+                if met {
+                    harness.meet_edge(change);
+                }
+            }
+            new_e.iter().zip(old_e).all(|(&new, old)| new <= old)
+        }
+        _ => false,
+    }
+}
+
+/// The commands' words, and the bounds, which are unsigned.
+fn halves(answer: &[u8]) -> (Vec<u32>, Vec<u32>) {
+    let mut commands: Vec<u32> = words(answer).iter().map(|&word| word as u32).collect();
+    let bounds = commands.split_off(answer.len() / 8);
+    (commands, bounds)
 }
 
 /// The first draw that is fit.
@@ -382,14 +440,33 @@ fn itself(harness: &mut Harness, _: u64, random: &mut Random) {
     marks_agree(harness, random);
     targets_agree(harness);
     steps_agree(harness);
-    let problem = cases::sample().problem();
-    let holds =
-        sums_in_range(&problem, [100, 27, -127].into_iter()) && !sums_in_range(&problem, [-100, 100, 28].into_iter());
-    harness.check(holds, || "  the test of running sums does not tell them apart".to_string());
+    running_sums_agree(harness);
+    former_agrees(harness);
     let mut lent = Lent::new(&[1, 2, 3]);
     harness.check(lent.guards_hold(), || "  a guard does not hold by itself".to_string());
     lent.write_beside();
     harness.check(!lent.guards_hold(), || "  a write beside a buffer is not found".to_string());
+}
+
+/// Sums from −2^63 to 2^63 − 1 are within 64 bits, and one beyond is found wherever it begins and ends.
+fn running_sums_agree(harness: &mut Harness) {
+    let half = 1i128 << 62;
+    let within: [&[i128]; 3] = [&[half, half - 1, -2 * half], &[-half, -half, half], &[2 * half - 1, -2 * half]];
+    let beyond: [&[i128]; 4] =
+        [&[-half, half, half, -half], &[half, -half, -half, -1], &[2 * half], &[1, -2 * half - 1]];
+    let in_range = |terms: &&[i128]| sums_in_range(terms.iter().copied());
+    let holds = within.iter().all(in_range) && !beyond.iter().any(in_range);
+    harness.check(holds, || "  the test of running sums does not tell them apart".to_string());
+}
+
+/// The drive without request 4 on coupled steps: −8 + 0 − 10 for −7.5 and 0.75, and c 2. Each term of A is 1 of 0.5.
+fn former_agrees(harness: &mut Harness) {
+    let former = |draft: Draft| Former::new(draft.words(), Without::Request4);
+    let coupled = former(cases::coupled([(-20, 20), (-2, 5)]).iterations(2));
+    let halves = |limit: i64| former(cases::coupled([(1, 1), (2, 2)]).with(GAIN, &[16, 0]).with(STATE_LIMIT, &[limit]));
+    let holds =
+        coupled.answer(&[10], &[0, 0]) == [-18, -2, 5, 5] && [125, 126].map(|limit| halves(limit).number()) == [0, 12];
+    harness.check(holds, || "  the drive without request 4 is another".to_string());
 }
 
 /// Big numbers beside 128-bit ones.
