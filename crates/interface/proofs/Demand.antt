@@ -2,9 +2,10 @@
 use mathlib.Core.Path.{_≡_, sym, _∙_}
 use mathlib.Core.Bool.{true}
 use mathlib.Core.List.{List}
-use Prim.Native.Nat.{ℕ, _*_, _≤_}
+use Prim.Native.Nat.{ℕ, _+_, _*_, _≤_}
+use native.Mathlib.Omega.{arith}
 use lib.Dec.{eqb, lit<, lit≤}
-use lib.ListN.{length}
+use lib.ListN.{length, length-append}
 use borrow.Author.Tests.{eqb-true}
 use Rattle.word.proofs.Words.{length-words-at}
 use Rattle.gradient.specs.Demand.{Demand3, FirstSweep, inputsWithin, startWithin}
@@ -27,6 +28,14 @@ use Rattle.interface.proofs.Accept.{accepted, bounds-count}
 pub values-count : (v : Input) (z : Sizes) (values : List ℕ) → length (valuesOf v z values) ≡ inputCount v z
 unfolding valuesOf
 values-count v z values = length-words-at values 0 (inputCount v z)
+
+pub inputs-length : (z : Sizes) (state target : List ℕ) → length (inputsOf z state target) ≡ z .nx + z .nr
+unfolding inputsOf
+inputs-length z state target = omega (arith, length-append (valuesOf State z state) (valuesOf Target z target), values-count State z state, values-count Target z target)
+
+pub start-length : (z : Sizes) (start : List ℕ) → length (startOf z start) ≡ commandCount z
+unfolding startOf
+start-length z start = length-words-at start 0 (commandCount z)
 
 inputs-within : (z : Sizes) (image state target : List ℕ) → valuesWithin State z image state ≡ true → valuesWithin Target z image target ≡ true
     → inputsWithin (problemAt z image) (inputsOf z state target) ≡ true

@@ -4,7 +4,7 @@ use mathlib.Core.List.{List, []}
 use Prim.Native.Nat.{ℕ, _+_, _*_, _-_, _^_, _≤_, _<_}
 use native.Mathlib.Nat.{add-zero, zero-add}
 use native.Mathlib.Omega.{arith}
-use lib.ListN.{length, length-append, getD}
+use lib.ListN.{length, getD}
 use lib.IntN.{ℤ, pos, natAbs, _+ℤ_}
 use Rattle.integer.specs.Round.{floor}
 use Rattle.word.specs.Word.{wordAt}
@@ -23,7 +23,7 @@ use Rattle.image.specs.Sizes.{commandCount, inputCount}
 use Rattle.image.specs.Layout.{sizesOf, gainRow, gainsOf, entryAt, commandAt, problemAt, problemOf}
 use Rattle.interface.specs.Calls.{valuesOf, inputsOf}
 use Rattle.interface.proofs.Accept.{commands-length, gains-count, gains-length, gain-at}
-use Rattle.interface.proofs.Demand.{values-count}
+use Rattle.interface.proofs.Demand.{values-count, inputs-length}
 use Rattle.array.specs.Arrays.{Filled, Tabled}
 use Rattle.dot.specs.Sums.{inputTerm, RunsTo}
 use Rattle.rows.specs.declared.Terms.{Terms}
@@ -61,21 +61,17 @@ module _ (z : Sizes) (image state target : List ℕ) (i : ℕ) (x y : List ℤ)
       rw (state-sum 0 (z .nx) (omega arith), target-sum 0 (z .nr) (omega arith), add-zero (z .nx))
       (sym (rw (zero-add (z .nx)) at (sumZ-split products-at 0 (z .nx) (z .nr))))
 
-  inputs-length : length (inputsOf z state target) ≡ z .nx + z .nr
-  unfolding inputsOf
-  inputs-length = omega (arith, length-append (valuesOf State z state) (valuesOf Target z target), values-count State z state, values-count Target z target)
-
   -- the whole sum, divided once
   pub linear-is : floor (sumZ (inputTerm (gainRow State z image i) x) 0 (z .nx) +ℤ sumZ (inputTerm (gainRow Target z image i) y) 0 (z .nr)) (2 ^ z .b) ≡ linearAt z image state target i
   unfolding linear problemAt F
   linear-is =
       ap (λ (s : ℤ). floor s (2 ^ z .b))
-      (whole-sum ∙ sym (products-sum (commandAt z image i .gains) (inputsOf z state target) (z .nx + z .nr) (gains-length z image i) inputs-length))
+      (whole-sum ∙ sym (products-sum (commandAt z image i .gains) (inputsOf z state target) (z .nx + z .nr) (gains-length z image i) (inputs-length z state target)))
 
   -- the sums that the code takes are running sums
   module _ (w : RunningSums (products (commandAt z image i .gains) (inputsOf z state target))) where
     within : (a m : ℕ) → a + m ≤ z .nx + z .nr → natAbs (sumZ products-at a m) < 2 ^ 63
-    within a m h = running-sum (commandAt z image i .gains) (inputsOf z state target) w a m (omega (arith, gains-length z image i)) (omega (arith, inputs-length))
+    within a m h = running-sum (commandAt z image i .gains) (inputsOf z state target) w a m (omega (arith, gains-length z image i)) (omega (arith, inputs-length z state target))
 
     pub state-runs : RunsTo (z .nx) (inputTerm (gainRow State z image i) x)
     state-runs a m h = rw (state-sum a m h) (within a m (omega arith))

@@ -1,0 +1,4 @@
+-- The laws that docs cite.
+pub mod Numbers
+pub mod Bounds
+pub mod OneTerm
