@@ -79,7 +79,8 @@ uint32_t gantry_cold_start(const uint8_t *image, size_t image_len, uint8_t *star
  * bounds as unsigned ones, both in counts of 2^-b. State, target and start are signed big-endian 32-bit words; with nr 0
  * the target is empty. Numbers: 0, 3, 5 to 16, tested 6, 3, 6, 5, 7 to 13, 16, 14, 15.
  * With 0, each command lies within the limits of its own step, and differs from the command of the exact scheme, which
- * rounds nothing, by at most its bound. A command is again a valid start. */
+ * rounds nothing, by at most its bound. A row's products are added in 64 bits, which they do not leave, and divided once,
+ * so a row loses at most one count. A command is again a valid start. */
 uint32_t gantry_solve(const uint8_t *image, size_t image_len, const uint8_t *state, size_t state_len,
                       const uint8_t *target, size_t target_len, const uint8_t *start, size_t start_len,
                       uint8_t *answer, size_t answer_len);
