@@ -71,6 +71,11 @@ unfoldable pub halved : ℕ → ℕ → ℕ → List ℕ
 halved l state target =
     wordsOut (map pos (1 ∷ 1 ∷ 1 ∷ 4 ∷ 8 ∷ 3 ∷ 1 ∷ 0 ∷ 8 ∷ 8 ∷ []) ++ (negℤ (pos l) ∷ map pos (l ∷ 0 ∷ state ∷ 8 ∷ target ∷ [])))
 
+-- H is 1, so M and A are 0; Φ is 1 and the state limit top, and the target's entry 1 count with limit `bound`
+unfoldable pub full : ℕ → List ℕ
+full bound =
+    wordsOut (map pos (1 ∷ 1 ∷ 1 ∷ 4 ∷ 8 ∷ 3 ∷ 1 ∷ 0 ∷ 16 ∷ 16 ∷ []) ++ (negsuc 19 ∷ map pos (20 ∷ 0 ∷ 127 ∷ 1 ∷ bound ∷ [])))
+
 -- S in words of 32 bits with twelve state and four target values, every entry of the two tables and every limit of theirs the largest word
 abbrev largest : ℕ → List ℤ
 largest n = tab (λ (i : ℕ). pos 2147483647) n
@@ -166,6 +171,9 @@ table =
     ∷ numbers (halved 20 117 117) 0
     ∷ numbers (halved 20 117 118) 12
     ∷ numbers (halved 19 117 118) 12
+    -- A is 0 and B's sum 2^b × top, the last that passes; one more is the first that does not
+    ∷ numbers (full 0) 0
+    ∷ numbers (full 1) 12
     -- B's sum is 2^66 − 2^36 + 16, which wraps to a number below 0 in 64 bits
     ∷ numbers wide 12
     ∷ []

@@ -8,9 +8,9 @@ use mir.Syntax.{w64}
 use mir.Val.{toZ, ofZ, SFits}
 use mir.Facts.{toZ-ofZ}
 use Rattle.integer.proofs.Machine.{fit-abs}
-use Rattle.gradient.specs.Index.{sumZ}
+use Rattle.gradient.specs.Index.{sumZ, productAt}
 use Rattle.gradient.proofs.Index.{sumZ-split}
-use Rattle.dot.specs.Sums.{productAt, Summable}
+use Rattle.dot.specs.Sums.{Summable}
 
 -- ---- two sums side by side
 module _ (r v : List ℤ) (a m k n : ℕ) (x y : ℤ) (d : Summable r v (a + n)) (all : m + k ≡ n) (p : x ≡ sumZ (productAt r v) a m) (q : y ≡ sumZ (productAt r v) (a + m) k) where

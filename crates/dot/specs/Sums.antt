@@ -4,12 +4,8 @@ use Prim.Native.Nat.{ℕ, _+_, _*_, _^_, _≤_, _<_}
 use lib.ListN.{length, getD}
 use lib.IntN.{ℤ, pos, natAbs, _*ℤ_}
 use Rattle.word.specs.Word.{wordAt}
-use Rattle.gradient.specs.Index.{sumN, sumZ}
+use Rattle.gradient.specs.Index.{sumN, sumZ, productAt}
 use Rattle.array.specs.Arrays.{WordsTo}
-
--- term i of a row r and a vector y
-unfoldable pub productAt : List ℤ → List ℤ → ℕ → ℤ
-productAt r y i = getD r i (pos 0) *ℤ getD y i (pos 0)
 
 -- term i of a row of the image and a vector x
 unfoldable pub inputTerm : List ℕ → List ℤ → ℕ → ℤ

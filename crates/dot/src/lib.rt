@@ -1,8 +1,8 @@
 // The sums of a row: of its products with a vector, undivided, and of its magnitudes times error bounds.
 ghost use mathlib.Core.Path.{_≡_};
 ghost use Prim.Native.Nat.{_+_};
-ghost use Rattle.gradient.specs.Index.{sumZ};
-ghost use Rattle.dot.specs.Sums.{productAt, inputTerm, Summable, RowSummable, weightTo, Weighable};
+ghost use Rattle.gradient.specs.Index.{sumZ, productAt};
+ghost use Rattle.dot.specs.Sums.{inputTerm, Summable, RowSummable, weightTo, Weighable};
 
 // A product.
 fn term(r: &[i64; 16], y: &[i64; 16], a: usize) -> i64

@@ -9,12 +9,12 @@ use lib.IntN.{ℤ, pos, natAbs, _+ℤ_}
 use Rattle.integer.specs.Round.{floor}
 use Rattle.word.specs.Word.{wordAt}
 use Rattle.word.proofs.Words.{getD-words-front}
-use Rattle.gradient.specs.Index.{sumZ}
+use Rattle.gradient.specs.Index.{sumZ, productAt}
 use Rattle.gradient.specs.Problem.{Command, Problem, F}
 use Rattle.gradient.specs.Scheme.{products, linear}
 use Rattle.gradient.specs.Bounds.{width}
 use Rattle.gradient.specs.Demand.{RunningSums}
-use Rattle.gradient.proofs.Index.{productsAt, sumZ-cong, sumZ-split, products-sum, running-sum, tab-at}
+use Rattle.gradient.proofs.Index.{sumZ-cong, sumZ-split, products-sum, running-sum, tab-at}
 use Rattle.gradient.proofs.Append.{sum-front, sum-behind}
 use Rattle.image.specs.declared.Sizes.{Sizes}
 use Rattle.image.specs.declared.Input.{Input}
@@ -32,8 +32,8 @@ use Rattle.loading.specs.Tables.{linearAt, TermsOf}
 -- ---- the linear term
 -- a sum of neighbouring terms of an input's row
 part-is : (v : Input) (z : Sizes) (image values : List ℕ) (x : List ℤ) (i : ℕ) → Filled (pos 0) (inputCount v z) (λ (j : ℕ). wordAt values (4 * j)) x
-    → (a m : ℕ) → a + m ≤ inputCount v z → sumZ (inputTerm (gainRow v z image i) x) a m ≡ sumZ (productsAt (gainsOf v z image i) (valuesOf v z values)) a m
-unfolding inputTerm valuesOf
+    → (a m : ℕ) → a + m ≤ inputCount v z → sumZ (inputTerm (gainRow v z image i) x) a m ≡ sumZ (productAt (gainsOf v z image i) (valuesOf v z values)) a m
+unfolding productAt inputTerm valuesOf
 part-is v z image values x i f a m h =
     let n = inputCount v z in
     sumZ-cong _ _ a m (λ j l u. let k : j < n = omega arith in rw (gain-at z image v i j k, getD-words-front values n j k, f .each j k))
@@ -42,7 +42,7 @@ part-is v z image values x i f a m h =
 module _ (z : Sizes) (image state target : List ℕ) (i : ℕ) (x y : List ℤ)
     (fx : Filled (pos 0) (z .nx) (λ (j : ℕ). wordAt state (4 * j)) x) (fy : Filled (pos 0) (z .nr) (λ (j : ℕ). wordAt target (4 * j)) y) where
   abbrev products-at : ℕ → ℤ
-  products-at = productsAt (commandAt z image i .gains) (inputsOf z state target)
+  products-at = productAt (commandAt z image i .gains) (inputsOf z state target)
 
   state-sum : (a m : ℕ) → a + m ≤ z .nx → sumZ (inputTerm (gainRow State z image i) x) a m ≡ sumZ products-at a m
   unfolding commandAt inputsOf

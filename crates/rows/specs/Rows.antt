@@ -4,10 +4,10 @@ use Prim.Native.Nat.{ℕ, _+_, _^_, _≤_, _<_, min}
 use lib.ListN.{getD}
 use lib.IntN.{ℤ, pos, _-ℤ_}
 use Rattle.integer.specs.Round.{floor, ceil, clamp}
-use Rattle.gradient.specs.Index.{sumZ}
+use Rattle.gradient.specs.Index.{sumZ, productAt}
 use Rattle.gradient.specs.Bounds.{slack}
 use Rattle.array.specs.Arrays.{Filled, WordsTo, NatsTo}
-use Rattle.dot.specs.Sums.{productAt, RunsTo, weightTo}
+use Rattle.dot.specs.Sums.{RunsTo, weightTo}
 use Rattle.rows.specs.declared.Terms.{Terms}
 use Rattle.rows.specs.declared.Rows.{Rows}
 

@@ -11,13 +11,13 @@ use Rattle.integer.specs.Round.{floor, clamp}
 use Rattle.word.specs.Word.{wordAt, wordsAt}
 use Rattle.word.proofs.Words.{getD-words-front}
 use Rattle.word.specs.Format.{top}
-use Rattle.gradient.specs.Index.{sumZ}
+use Rattle.gradient.specs.Index.{sumZ, productAt}
 use Rattle.gradient.specs.Problem.{Command, Problem, F}
 use Rattle.gradient.specs.Scheme.{Iterate, products, linear, nextZ, nextY, iterate}
 use Rattle.gradient.specs.Bounds.{Error, weight, nextE, nextQ, errorAfter, rangeA}
 use Rattle.gradient.specs.Demand.{formatted, ordered, headroom, inputsWithin, startWithin, InWord, RunningSums, InRange, Demand3}
 use Rattle.gradient.specs.Sizes.{SizedCommand, Sized}
-use Rattle.gradient.proofs.Index.{productsAt, sumZ-cong, sumN-cong, running-sum, unclamped-sum, weight-sum, step-z-at, step-y-at, errorStep-e-at, errorStep-q-at, all1-at, map-at}
+use Rattle.gradient.proofs.Index.{sumZ-cong, sumN-cong, running-sum, unclamped-sum, weight-sum, step-z-at, step-y-at, errorStep-e-at, errorStep-q-at, all1-at, map-at}
 use Rattle.gradient.proofs.Lengths.{iterate-z-length, iterate-y-length, error-e-length, error-q-length}
 use Rattle.gradient.proofs.Tests.{headroom-at, start-length}
 use Rattle.gradient.proofs.Demand.{demand3}
@@ -27,7 +27,7 @@ use Rattle.image.specs.Layout.{sizesOf, problemOf}
 use Rattle.interface.specs.Calls.{inputsOf, startOf}
 use Rattle.interface.specs.Accepted.{Solvable}
 use Rattle.interface.proofs.Demand.{all-claims}
-use Rattle.dot.specs.Sums.{productAt, RunsTo, weightTo}
+use Rattle.dot.specs.Sums.{RunsTo, weightTo}
 use Rattle.rows.specs.declared.Terms.{Terms}
 use Rattle.rows.specs.Rows.{unclampedAt, zAt, eAt, Fitting}
 use Rattle.iteration.specs.declared.State.{State}
@@ -103,7 +103,7 @@ module _ {p : Problem} {inputs start : List ℤ} {m : List (List ℤ)} {t : Term
         ∙ sym (weight-sum (command p i .row) (E .q) N (of-command i h .row-length) (error-q-length p k)))
 
     -- the sums that the code takes of a row of M y are running sums
-    terms-are : (i : ℕ) → i < N → (a n : ℕ) → a + n ≤ N → sumZ (productAt (getD m i []) (s .y)) a n ≡ sumZ (productsAt (command p i .row) (I .y)) a n
+    terms-are : (i : ℕ) → i < N → (a n : ℕ) → a + n ≤ N → sumZ (productAt (getD m i []) (s .y)) a n ≡ sumZ (productAt (command p i .row) (I .y)) a n
     unfolding productAt
     terms-are i h a n l = sumZ-cong _ _ a n (λ j o u. rw (rep .rows i h j (omega arith), at .at-y .each j (omega arith)))
 

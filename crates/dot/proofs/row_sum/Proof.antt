@@ -5,9 +5,9 @@ use Prim.Native.Nat.{ℕ, _+_, _≤_}
 use lib.ListN.{getD}
 use lib.IntN.{ℤ, pos, _*ℤ_}
 use Rattle.integer.proofs.Machine.{back}
-use Rattle.gradient.specs.Index.{sumZ}
+use Rattle.gradient.specs.Index.{sumZ, productAt}
 use Rattle.gradient.proofs.Index.{sumZ-cong}
-use Rattle.dot.specs.Sums.{productAt, inputTerm}
+use Rattle.dot.specs.Sums.{inputTerm}
 use borrow.Author.Needs.{needs}
 use Rattle.dot.proofs.row_sum.Statement.{statement}
 use Rattle.dot.proofs.row_sum.Tie as tie

@@ -7,8 +7,8 @@ use mir.Syntax.{w64}
 use mir.Val.{SFits}
 use mir.Facts.{toZ-ofZ}
 use Rattle.integer.proofs.Machine.{fit-abs}
+use Rattle.gradient.specs.Index.{productAt}
 use Rattle.gradient.proofs.Index.{sumZ-one}
-use Rattle.dot.specs.Sums.{productAt}
 use borrow.Author.Needs.{needs}
 use Rattle.dot.proofs.term.Statement.{statement}
 use Rattle.dot.proofs.term.Tie as tie

@@ -14,9 +14,8 @@ use Rattle.integer.proofs.Laws.{abs-sub}
 use Rattle.integer.proofs.Machine.{back, fit-abs}
 use Rattle.integer.proofs.Floor.{ceil-most}
 use Rattle.array.proofs.Filling.{Filling, none, more, full}
-use Rattle.gradient.specs.Index.{sumZ}
+use Rattle.gradient.specs.Index.{sumZ, productAt}
 use Rattle.gradient.specs.Bounds.{slack}
-use Rattle.dot.specs.Sums.{productAt}
 use Rattle.rows.specs.Rows.{unclampedAt, zAt, eAt}
 use Rattle.rows.proofs.Small.{divided-size}
 use Rattle.rows.proofs.next_rows.Statement.{statement}
