@@ -6,11 +6,12 @@ use native.Mathlib.Omega.{arith}
 use lib.IntN.{ℤ, natAbs}
 use lib.ListN.{length}
 use Rattle.integer.proofs.Floor.{ceil-mono}
-use Rattle.gradient.specs.Vector.{All1, nil1, cons1, All2, nil2, cons2}
+use Rattle.gradient.specs.Vector.{All2, nil2, cons2}
 use Rattle.gradient.specs.Problem.{Command, Problem, F}
 use Rattle.gradient.specs.Bounds.{Error, slack, weight, nextE, nextQ, errorStep, errorAfter}
 use Rattle.gradient.proofs.Vector.{map-all2, zip-all2}
 use Rattle.gradient.proofs.Range.{F-pos}
+use Rattle.gradient.proofs.Sizes.{each-command}
 use Rattle.image.specs.Sizes.{commandCount}
 use Rattle.image.specs.Layout.{sizesOf, problemOf}
 use Rattle.interface.specs.Calls.{boundsAfter}
@@ -23,10 +24,6 @@ unfolding weight
 weight-mono [] h = omega arith
 weight-mono (x ∷ xs) nil2 = omega arith
 weight-mono (x ∷ xs) (cons2 h t) = omega (arith, mul-le-mul-left (natAbs x) h, weight-mono xs t)
-
-any : (rs : List Command) → All1 (λ (r : Command). zero ≤ zero) rs
-any [] = nil1
-any (r ∷ rs) = cons1 (omega arith) (any rs)
 
 module _ (p : Problem) (some : 1 ≤ length (p .commands)) where
   next-e : {q o : List ℕ} → All2 _≤_ q o → (r : Command) → nextE p q r ≤ former.nextE p o r
@@ -46,14 +43,14 @@ module _ (p : Problem) (some : 1 ≤ length (p .commands)) where
   step-smaller : (s t : Error) → Smaller s t → Smaller (errorStep p s) (former.errorStep p t)
   unfolding errorStep former.errorStep
   step-smaller s t h =
-      let new = map-all2 (nextE p (s .q)) (former.nextE p (t .q)) (λ r o. next-e (h .q-most) r) (any (p .commands)) in
+      let new = map-all2 (nextE p (s .q)) (former.nextE p (t .q)) (λ r o. next-e (h .q-most) r) (each-command (p .commands)) in
       record { e-most = new; q-most = zip-all2 (nextQ p) (nextQ p) (λ a a′ b b′ i j. next-q a b a′ b′ i j) new (h .e-most) }
 
   smaller : (k : ℕ) → Smaller (errorAfter p k) (former.errorAfter p k)
   unfolding errorAfter former.errorAfter
   smaller zero = record {
-    e-most = map-all2 _ _ (λ r o. omega arith) (any (p .commands));
-    q-most = map-all2 _ _ (λ r o. omega arith) (any (p .commands));
+    e-most = map-all2 _ _ (λ r o. omega arith) (each-command (p .commands));
+    q-most = map-all2 _ _ (λ r o. omega arith) (each-command (p .commands));
   }
   smaller (suc k) = step-smaller (errorAfter p k) (former.errorAfter p k) (smaller k)
 

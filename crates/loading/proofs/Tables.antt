@@ -38,9 +38,17 @@ part-is v z image values x i f a m h =
     let n = inputCount v z in
     sumZ-cong _ _ a m (λ j l u. let k : j < n = omega arith in rw (gain-at z image v i j k, getD-words-front values n j k, f .each j k))
 
--- the state's terms stand in front, the target's behind them, in the one row of the command
+-- what the code's two sums of row i are: x and y are the arrays of the state and of the target
+pub record LinearOf (z : Sizes) (image state target : List ℕ) (i : ℕ) (x y : List ℤ) : Type 0 where
+  pub state-runs : RunsTo (z .nx) (inputTerm (gainRow State z image i) x)
+  pub target-runs : RunsTo (z .nr) (inputTerm (gainRow Target z image i) y)
+  pub within : natAbs (sumZ (inputTerm (gainRow State z image i) x) 0 (z .nx) +ℤ sumZ (inputTerm (gainRow Target z image i) y) 0 (z .nr)) < 2 ^ 63
+  pub divided : floor (sumZ (inputTerm (gainRow State z image i) x) 0 (z .nx) +ℤ sumZ (inputTerm (gainRow Target z image i) y) 0 (z .nr)) (2 ^ z .b) ≡ linearAt z image state target i
+
+-- the state's terms stand in front, the target's behind them, in the one row of the command, whose running sums are given
 module _ (z : Sizes) (image state target : List ℕ) (i : ℕ) (x y : List ℤ)
-    (fx : Filled (pos 0) (z .nx) (λ (j : ℕ). wordAt state (4 * j)) x) (fy : Filled (pos 0) (z .nr) (λ (j : ℕ). wordAt target (4 * j)) y) where
+    (fx : Filled (pos 0) (z .nx) (λ (j : ℕ). wordAt state (4 * j)) x) (fy : Filled (pos 0) (z .nr) (λ (j : ℕ). wordAt target (4 * j)) y)
+    (w : RunningSums (products (commandAt z image i .gains) (inputsOf z state target))) where
   abbrev products-at : ℕ → ℤ
   products-at = productAt (commandAt z image i .gains) (inputsOf z state target)
 
@@ -61,26 +69,18 @@ module _ (z : Sizes) (image state target : List ℕ) (i : ℕ) (x y : List ℤ)
       rw (state-sum 0 (z .nx) (omega arith), target-sum 0 (z .nr) (omega arith), add-zero (z .nx))
       (sym (rw (zero-add (z .nx)) at (sumZ-split products-at 0 (z .nx) (z .nr))))
 
-  -- the whole sum, divided once
-  pub linear-is : floor (sumZ (inputTerm (gainRow State z image i) x) 0 (z .nx) +ℤ sumZ (inputTerm (gainRow Target z image i) y) 0 (z .nr)) (2 ^ z .b) ≡ linearAt z image state target i
+  in64 : (a m : ℕ) → a + m ≤ z .nx + z .nr → natAbs (sumZ products-at a m) < 2 ^ 63
+  in64 a m h = running-sum (commandAt z image i .gains) (inputsOf z state target) w a m (omega (arith, gains-length z image i)) (omega (arith, inputs-length z state target))
+
+  pub linear-of : LinearOf z image state target i x y
   unfolding linear problemAt F
-  linear-is =
-      ap (λ (s : ℤ). floor s (2 ^ z .b))
-      (whole-sum ∙ sym (products-sum (commandAt z image i .gains) (inputsOf z state target) (z .nx + z .nr) (gains-length z image i) (inputs-length z state target)))
-
-  -- the sums that the code takes are running sums
-  module _ (w : RunningSums (products (commandAt z image i .gains) (inputsOf z state target))) where
-    within : (a m : ℕ) → a + m ≤ z .nx + z .nr → natAbs (sumZ products-at a m) < 2 ^ 63
-    within a m h = running-sum (commandAt z image i .gains) (inputsOf z state target) w a m (omega (arith, gains-length z image i)) (omega (arith, inputs-length z state target))
-
-    pub state-runs : RunsTo (z .nx) (inputTerm (gainRow State z image i) x)
-    state-runs a m h = rw (state-sum a m h) (within a m (omega arith))
-
-    pub target-runs : RunsTo (z .nr) (inputTerm (gainRow Target z image i) y)
-    target-runs a m h = rw (target-sum a m h) (within (z .nx + a) m (omega arith))
-
-    pub whole-within : natAbs (sumZ (inputTerm (gainRow State z image i) x) 0 (z .nx) +ℤ sumZ (inputTerm (gainRow Target z image i) y) 0 (z .nr)) < 2 ^ 63
-    whole-within = rw whole-sum (within 0 (z .nx + z .nr) (omega arith))
+  linear-of = record {
+    state-runs = λ a m h. rw (state-sum a m h) (in64 a m (omega arith));
+    target-runs = λ a m h. rw (target-sum a m h) (in64 (z .nx + a) m (omega arith));
+    within = rw whole-sum (in64 0 (z .nx + z .nr) (omega arith));
+    divided = ap (λ (s : ℤ). floor s (2 ^ z .b))
+        (whole-sum ∙ sym (products-sum (commandAt z image i .gains) (inputsOf z state target) (z .nx + z .nr) (gains-length z image i) (inputs-length z state target)));
+  }
 
 -- ---- the arrays of a problem
 pub nothing : Command

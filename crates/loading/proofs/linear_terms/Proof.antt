@@ -9,16 +9,13 @@ use mir.Facts.{toZ-ofZ}
 use Rattle.integer.specs.Round.{floor}
 use Rattle.integer.proofs.Machine.{back, fit-abs}
 use Rattle.gradient.specs.Index.{sumZ}
-use Rattle.gradient.specs.Scheme.{products}
-use Rattle.gradient.specs.Demand.{RunningSums}
 use Rattle.image.specs.declared.Input.the-variants.{State, Target}
 use Rattle.image.specs.Sizes.{commandCount}
-use Rattle.image.specs.Layout.{gainRow, commandAt}
-use Rattle.interface.specs.Calls.{inputsOf}
+use Rattle.image.specs.Layout.{gainRow}
 use Rattle.dot.specs.Sums.{inputTerm}
 use Rattle.array.proofs.Filling.{Filling, none, more, full}
 use Rattle.loading.specs.Tables.{linearAt}
-use Rattle.loading.proofs.Tables.{linear-is, state-runs, target-runs, whole-within}
+use Rattle.loading.proofs.Tables.{LinearOf, linear-of}
 use borrow.Author.Needs.{needs}
 use Rattle.loading.proofs.linear_terms.Statement.{statement}
 use Rattle.loading.proofs.linear_terms.Tie as tie
@@ -43,8 +40,10 @@ module _ (l : tie.In-loop Inv-loop μ-loop) where
   abbrev ys : tie.After-words-of2 Inv-loop μ-loop
   ys = l .before .before .before
 
-  sums : RunningSums (products (commandAt (a .args .z) (a .args .image .now) i .gains) (inputsOf (a .args .z) (a .args .state .now) (a .args .target .now)))
-  sums = a .pre .sums i (l .loop-test .taken)
+  linear : LinearOf (a .args .z) (a .args .image .now) (a .args .state .now) (a .args .target .now) i (xs .words-of .result) (ys .words-of2 .result)
+  linear =
+      linear-of (a .args .z) (a .args .image .now) (a .args .state .now) (a .args .target .now) i (xs .words-of .result) (ys .words-of2 .result) (xs .words-of .ensures .0) (ys .words-of2 .ensures .0)
+      (a .pre .sums i (l .loop-test .taken))
 
 -- a turn's two sums, and that they are one
 module _ (c : tie.After-gain-sum2 Inv-loop μ-loop) where
@@ -66,10 +65,7 @@ module _ (c : tie.After-gain-sum2 Inv-loop μ-loop) where
   one = cc (c .before .before .gain-sum .ensures, c .gain-sum2 .ensures)
 
   fits : SFits w64 (x +ℤ y)
-  fits =
-      let s = a l .args in
-      fit-abs (x +ℤ y)
-      (rw one (whole-within (s .z) (s .image .now) (s .state .now) (s .target .now) (i l) (xs l .words-of .result) (ys l .words-of2 .result) (xs l .words-of .ensures .0) (ys l .words-of2 .ensures .0) (sums l)))
+  fits = fit-abs (x +ℤ y) (rw one (linear l .within))
 
 mul-n : tie.Need-mul-n Inv-loop μ-loop
 mul-n c = search needs
@@ -89,20 +85,10 @@ loop-holds c =
     none (pos 0) (λ k h. h ≡ linearAt (a .z) (a .image .now) (a .state .now) (a .target .now) k) (commandCount (a .z)) (c .blank .result) (c .blank .ensures)
 
 gain-sum-requires : tie.Need-gain-sum-requires Inv-loop μ-loop
-gain-sum-requires c κs =
-    let l = c .before in
-    let s = a l .args in (
-      (a l .pre .whole, l .loop-test .taken),
-      (xs l .words-of .ensures .1, state-runs (s .z) (s .image .now) (s .state .now) (s .target .now) (i l) (xs l .words-of .result) (ys l .words-of2 .result) (xs l .words-of .ensures .0) (ys l .words-of2 .ensures .0) (sums l)),
-    )
+gain-sum-requires c κs = let l = c .before in ((a l .pre .whole, l .loop-test .taken), (xs l .words-of .ensures .1, linear l .state-runs))
 
 gain-sum-requires-2 : tie.Need-gain-sum-requires-2 Inv-loop μ-loop
-gain-sum-requires-2 c κs =
-    let l = c .before .before .before in
-    let s = a l .args in (
-      (a l .pre .whole, l .loop-test .taken),
-      (ys l .words-of2 .ensures .1, target-runs (s .z) (s .image .now) (s .state .now) (s .target .now) (i l) (xs l .words-of .result) (ys l .words-of2 .result) (xs l .words-of .ensures .0) (ys l .words-of2 .ensures .0) (sums l)),
-    )
+gain-sum-requires-2 c κs = let l = c .before .before .before in ((a l .pre .whole, l .loop-test .taken), (ys l .words-of2 .ensures .1, linear l .target-runs))
 
 add-s : tie.Need-add-s Inv-loop μ-loop
 add-s c = rw (back (x c) (c .before .before .gain-sum .ok), back (y c) (c .gain-sum2 .ok)) (fits c)
@@ -129,9 +115,7 @@ loop-again c =
     let q = c .floor-div in
     let made = (rw (back (x g) (g .before .before .gain-sum .ok), back (y g) (g .gain-sum2 .ok), toZ-ofZ (fits g)) at (q .ensures)) ∙ ap (λ (h : ℤ). floor h (2 ^ s .z .b)) (one g) in
     more (pos 0) (λ k h. h ≡ linearAt (s .z) (s .image .now) (s .state .now) (s .target .now) k) _ (a (l g) .pre .whole .sizes .n-high) (l g .loop-test .taken) (l g .before .loop .inv)
-    (back (q .result) (q .ok)
-    ∙ made
-    ∙ linear-is (s .z) (s .image .now) (s .state .now) (s .target .now) (i (l g)) (xs (l g) .words-of .result) (ys (l g) .words-of2 .result) (xs (l g) .words-of .ensures .0) (ys (l g) .words-of2 .ensures .0))
+    (back (q .result) (q .ok) ∙ made ∙ linear (l g) .divided)
 
 returns : tie.Need-returns Inv-loop μ-loop
 returns c =
