@@ -2,16 +2,13 @@
 use mathlib.Core.Path.{_≡_, refl, sym, ap, _∙_}
 use mathlib.Core.Bool.{Bool, _&&_, and-assoc}
 use mathlib.Core.List.{List, [], _∷_, _++_}
-use Prim.Native.Nat.{ℕ, _+_, _*_, _≤_}
+use Prim.Native.Nat.{ℕ, _+_, _*_}
 use native.Mathlib.Omega.{arith}
-use lib.IntN.{ℤ, pos, natAbs, _*ℤ_}
-use lib.ListN.{length, getD, List·getD-append}
-use lib.Seq.{getD-append-add}
+use lib.IntN.{ℤ, natAbs}
+use lib.ListN.{length}
 use Rattle.gradient.specs.Vector.{zipWith, sum, All1, nil1, cons1}
-use Rattle.gradient.specs.Index.{sumZ, productAt}
 use Rattle.gradient.specs.Bounds.{weight}
 use Rattle.gradient.specs.Demand.{every2}
-use Rattle.gradient.proofs.Index.{sumZ-cong, sumZ-from}
 
 -- ---- place by place
 pub all1-append : {A : Type 0} {P : A → Type 0} {l m : List A} → All1 P l → All1 P m → All1 P (l ++ m)
@@ -44,17 +41,3 @@ pub weight-append : (xs us : List ℤ) (ys vs : List ℕ) → length xs ≡ leng
 unfolding weight
 weight-append xs us ys vs e =
     ap sum (zip-append _ xs us ys vs e) ∙ sum-append (zipWith (λ (a : ℤ) (b : ℕ). natAbs a * b) xs ys) (zipWith (λ (a : ℤ) (b : ℕ). natAbs a * b) us vs)
-
--- a sum of neighbouring products of the first row, and of the second
-module _ (xs us ys vs : List ℤ) (n : ℕ) (h : length xs ≡ n) (k : length ys ≡ n) where
-  pub sum-front : (a m : ℕ) → a + m ≤ n → sumZ (productAt xs ys) a m ≡ sumZ (productAt (xs ++ us) (ys ++ vs)) a m
-  unfolding productAt
-  sum-front a m l =
-      sumZ-cong _ _ a m (λ i o u. rw (List·getD-append xs us (pos 0) i (omega arith), List·getD-append ys vs (pos 0) i (omega arith)))
-
-  pub sum-behind : (a m : ℕ) → sumZ (productAt us vs) a m ≡ sumZ (productAt (xs ++ us) (ys ++ vs)) (n + a) m
-  unfolding productAt
-  sum-behind a m = sumZ-cong _ _ a m (λ i o u. sym (behind i)) ∙ sumZ-from (productAt (xs ++ us) (ys ++ vs)) n a m
-    where
-      behind : (i : ℕ) → productAt (xs ++ us) (ys ++ vs) (n + i) ≡ productAt us vs i
-      behind i = rw (← (getD-append-add xs us i (pos 0)), ← (getD-append-add ys vs i (pos 0)), h, k)

@@ -1,20 +1,20 @@
 -- Sums of naturals, capped, so that code in 64 bits tests "A + B at most top" exactly: the sum of |Φ| × limit itself may pass 64 bits. With the
 -- cap f × t + 1 nothing is lost: a sum above f × t has a quotient above t when rounded up, whatever follows. Assumes nothing.
-use mathlib.Core.Path.{_≡_, sym, ap, _∙_}
+use mathlib.Core.Path.{_≡_, sym, _∙_}
 use Prim.Native.Nat.{ℕ, zero, _+_, _*_, _≤_, _<_, min}
 use native.Mathlib.Nat.{lt-of-mul-lt-mul-left}
 use native.Mathlib.Decide.{decLe}
+use native.Mathlib.Numerals.{add-one}
 use native.Mathlib.Omega.{arith}
 use lib.Dec.{leb}
 use borrow.Author.Tests.{le-leb, lt-leb}
 use Rattle.integer.specs.Round.{ceil}
 use Rattle.integer.proofs.Floor.{ceil-above, ceil-least}
 use Rattle.gradient.specs.Index.{sumN}
-use Rattle.gradient.proofs.Index.{sumN-next}
 
 -- the step of a loop, and two parts
 pub capped-next : (g : ℕ → ℕ) (c n : ℕ) → min (min (sumN g n) c + g n) c ≡ min (sumN g (n + 1)) c
-capped-next g c n = once (sumN g n) (g n) ∙ ap (λ (m : ℕ). min m c) (sym (sumN-next g n))
+capped-next g c n = rw (add-one n) (once (sumN g n) (g n))
   where
     once : (s t : ℕ) → min (min s c + t) c ≡ min (s + t) c
     once s t = omega arith

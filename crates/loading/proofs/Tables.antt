@@ -14,8 +14,7 @@ use Rattle.gradient.specs.Problem.{Command, Problem, F}
 use Rattle.gradient.specs.Scheme.{products, linear}
 use Rattle.gradient.specs.Bounds.{width}
 use Rattle.gradient.specs.Demand.{RunningSums}
-use Rattle.gradient.proofs.Index.{sumZ-cong, sumZ-split, products-sum, running-sum, tab-at}
-use Rattle.gradient.proofs.Append.{sum-front, sum-behind}
+use Rattle.gradient.proofs.Index.{sumZ-cong, sumZ-split, products-sum, running-sum, sum-front, sum-behind, tab-at}
 use Rattle.image.specs.declared.Sizes.{Sizes}
 use Rattle.image.specs.declared.Input.{Input}
 use Rattle.image.specs.declared.Input.the-variants.{State, Target}
