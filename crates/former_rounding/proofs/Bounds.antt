@@ -1,13 +1,13 @@
 -- With c 1 no bound is larger than it was: the recurrence grows with what it is fed. Assumes nothing.
 use mathlib.Core.List.{List, [], _∷_}
-use Prim.Native.Nat.{ℕ, zero, suc, _+_, _*_, _≤_, _<_}
+use Prim.Native.Nat.{ℕ, zero, suc, _+_, _≤_}
 use native.Mathlib.Nat.{mul-le-mul-left}
 use native.Mathlib.Omega.{arith}
 use lib.IntN.{ℤ, natAbs}
 use lib.ListN.{length}
 use Rattle.integer.proofs.Floor.{ceil-mono}
 use Rattle.gradient.specs.Vector.{All2, nil2, cons2}
-use Rattle.gradient.specs.Problem.{Command, Problem, F}
+use Rattle.gradient.specs.Problem.{Command, Problem}
 use Rattle.gradient.specs.Bounds.{Error, slack, weight, nextE, nextQ, errorStep, errorAfter}
 use Rattle.gradient.proofs.Vector.{map-all2, zip-all2}
 use Rattle.gradient.proofs.Range.{F-pos}

@@ -1,6 +1,6 @@
 -- `headroom::row_passes` meets its contract: the test of the capped sums is that of the true ones. Assumes nothing.
 use native.Mathlib.Omega.{arith}
-use mathlib.Core.Path.{_≡_, refl, sym, ap, _∙_}
+use mathlib.Core.Path.{_≡_, refl, ap, _∙_}
 use Prim.Native.Nat.{ℕ, _+_, _*_, _^_, _≤_, min}
 use lib.Pow.{pow-pos}
 use Rattle.integer.specs.Round.{ceil}

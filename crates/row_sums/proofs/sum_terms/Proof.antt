@@ -1,8 +1,8 @@
 -- `row_sums::sum_terms` meets its contract: no turn leaves 64 bits, though the sum itself may. Assumes nothing.
 use native.Mathlib.Omega.{arith}
 use native.Mathlib.Numerals.{add-one}
-use mathlib.Core.Path.{_≡_, ap, _∙_}
-use Prim.Native.Nat.{ℕ, _+_, _*_, _-_, _^_, _≤_, _<_, min}
+use mathlib.Core.Path.{_≡_, _∙_}
+use Prim.Native.Nat.{_+_, _*_, _-_, _^_, _≤_, _<_, min}
 use Rattle.gradient.specs.Index.{sumN}
 use Rattle.gradient.proofs.Capped.{capped-next}
 use Rattle.row_sums.specs.Terms.{termAt, termMost}
