@@ -2,6 +2,7 @@
 use native.Mathlib.Omega.{arith}
 use mathlib.Core.Path.{_≡_, refl, ap, _∙_}
 use Prim.Native.Nat.{ℕ, _+_, _*_, _^_, _≤_, min}
+use lib.Dec.{leb}
 use lib.Pow.{pow-pos}
 use Rattle.integer.specs.Round.{ceil}
 use Rattle.integer.proofs.Floor.{ceil-most}
@@ -117,6 +118,9 @@ add-result c =
       );
     }
 
+same-test : {a b t x y u : ℕ} → a ≡ x → b ≡ y → t ≡ u → leb (a + b) t ≡ leb (x + y) u
+same-test p q r = rw (p, q, r) refl
+
 returns : tie.Need-returns
 unfolding rowTest
 returns c =
@@ -126,7 +130,7 @@ returns c =
     let x : c .before .ceil-div .result ≡ ceil (min (range e) (cap e)) f = c .before .ceil-div .ensures ∙ ap (λ (k : ℕ). ceil k f) (range-is e) in
     let y : c .ceil-div2 .result ≡ ceil (min (gains e State + gains e Target) (cap e)) f = c .ceil-div2 .ensures ∙ ap (λ (k : ℕ). ceil k f) (gains-are e) in
     rw (range-terms (s .z) (s .image .now) (s .i), gain-terms (s .z) (s .image .now) (s .i))
-    ((cc (x, y, d e .before .before .before .before .top-word .ensures .0)) ∙ capped-row f (top (s .z .w)) (range e) (gains e State + gains e Target) (pow-pos (s .z .b)))
+    (same-test x y (d e .before .before .before .before .top-word .ensures .0) ∙ capped-row f (top (s .z .w)) (range e) (gains e State + gains e Target) (pow-pos (s .z .b)))
 
 pub row-passes-spec : {M : Type 1} → statement M
 row-passes-spec =
