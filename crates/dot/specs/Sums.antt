@@ -5,6 +5,7 @@ use lib.ListN.{length, getD}
 use lib.IntN.{ℤ, pos, natAbs, _*ℤ_}
 use Rattle.word.specs.Word.{wordAt}
 use Rattle.gradient.specs.Index.{sumN, sumZ, productAt}
+use Rattle.gradient.specs.Demand.{In64}
 use Rattle.array.specs.Arrays.{WordsTo}
 
 -- term i of a row of the image and a vector x
@@ -13,7 +14,7 @@ inputTerm row x i = wordAt row (4 * i) *ℤ getD x i (pos 0)
 
 -- every sum of neighbours among the first n terms is within 64 bits, as demand 3 says of a solve's rows
 abbrev pub RunsTo : ℕ → (ℕ → ℤ) → Type 0
-RunsTo n f = (a k : ℕ) → a + k ≤ n → natAbs (sumZ f a k) < 2 ^ 63
+RunsTo n f = (a k : ℕ) → a + k ≤ n → In64 (sumZ f a k)
 
 -- what a sum of some of the first n terms asks
 pub record Summable (r y : List ℤ) (n : ℕ) : Type 0 where

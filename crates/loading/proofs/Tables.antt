@@ -5,7 +5,7 @@ use Prim.Native.Nat.{ℕ, _+_, _*_, _-_, _^_, _≤_, _<_}
 use native.Mathlib.Nat.{add-zero, zero-add}
 use native.Mathlib.Omega.{arith}
 use lib.ListN.{length, getD}
-use lib.IntN.{ℤ, pos, natAbs, _+ℤ_}
+use lib.IntN.{ℤ, pos, _+ℤ_}
 use Rattle.integer.specs.Round.{floor}
 use Rattle.word.specs.Word.{wordAt}
 use Rattle.word.proofs.Words.{getD-words-front}
@@ -13,7 +13,7 @@ use Rattle.gradient.specs.Index.{sumZ, productAt}
 use Rattle.gradient.specs.Problem.{Command, Problem, F}
 use Rattle.gradient.specs.Scheme.{products, linear}
 use Rattle.gradient.specs.Bounds.{width}
-use Rattle.gradient.specs.Demand.{RunningSums}
+use Rattle.gradient.specs.Demand.{In64, RunningSums}
 use Rattle.gradient.proofs.Index.{sumZ-cong, sumZ-split, products-sum, running-sum, sum-front, sum-behind, tab-at}
 use Rattle.image.specs.declared.Sizes.{Sizes}
 use Rattle.image.specs.declared.Input.{Input}
@@ -41,7 +41,7 @@ part-is v z image values x i f a m h =
 pub record LinearOf (z : Sizes) (image state target : List ℕ) (i : ℕ) (x y : List ℤ) : Type 0 where
   pub state-runs : RunsTo (z .nx) (inputTerm (gainRow State z image i) x)
   pub target-runs : RunsTo (z .nr) (inputTerm (gainRow Target z image i) y)
-  pub within : natAbs (sumZ (inputTerm (gainRow State z image i) x) 0 (z .nx) +ℤ sumZ (inputTerm (gainRow Target z image i) y) 0 (z .nr)) < 2 ^ 63
+  pub within : In64 (sumZ (inputTerm (gainRow State z image i) x) 0 (z .nx) +ℤ sumZ (inputTerm (gainRow Target z image i) y) 0 (z .nr))
   pub divided : floor (sumZ (inputTerm (gainRow State z image i) x) 0 (z .nx) +ℤ sumZ (inputTerm (gainRow Target z image i) y) 0 (z .nr)) (2 ^ z .b) ≡ linearAt z image state target i
 
 -- the state's terms stand in front, the target's behind them, in the one row of the command, whose running sums are given
@@ -68,7 +68,7 @@ module _ (z : Sizes) (image state target : List ℕ) (i : ℕ) (x y : List ℤ)
       rw (state-sum 0 (z .nx) (omega arith), target-sum 0 (z .nr) (omega arith), add-zero (z .nx))
       (sym (rw (zero-add (z .nx)) at (sumZ-split products-at 0 (z .nx) (z .nr))))
 
-  in64 : (a m : ℕ) → a + m ≤ z .nx + z .nr → natAbs (sumZ products-at a m) < 2 ^ 63
+  in64 : (a m : ℕ) → a + m ≤ z .nx + z .nr → In64 (sumZ products-at a m)
   in64 a m h = running-sum (commandAt z image i .gains) (inputsOf z state target) w a m (omega (arith, gains-length z image i)) (omega (arith, inputs-length z state target))
 
   pub linear-of : LinearOf z image state target i x y
