@@ -1,7 +1,7 @@
 -- Sums of undivided products, as the code reads them back: each is a sum of neighbouring terms, so its size is given. Assumes nothing.
-use mathlib.Core.Path.{_≡_, sym, ap, _∙_}
+use mathlib.Core.Path.{_≡_, sym, _∙_}
 use mathlib.Core.List.{List}
-use Prim.Native.Nat.{ℕ, _+_, _-_, _/_, _≤_, _<_}
+use Prim.Native.Nat.{ℕ, _+_, _≤_}
 use native.Mathlib.Omega.{arith}
 use lib.IntN.{ℤ, _+ℤ_}
 use mir.Syntax.{w64}
@@ -9,31 +9,32 @@ use mir.Val.{toZ, ofZ, SFits}
 use mir.Facts.{toZ-ofZ}
 use Rattle.integer.proofs.Machine.{fit-abs}
 use Rattle.gradient.specs.Index.{sumZ, productAt}
-use Rattle.gradient.proofs.Index.{sumZ-split}
+use Rattle.gradient.proofs.Index.{sumZ-split, sumZ-one}
 use Rattle.dot.specs.Sums.{Summable}
 
--- ---- two sums side by side
-module _ (r v : List ℤ) (a m k n : ℕ) (x y : ℤ) (d : Summable r v (a + n)) (all : m + k ≡ n) (p : x ≡ sumZ (productAt r v) a m) (q : y ≡ sumZ (productAt r v) (a + m) k) where
-  fx : SFits w64 x
-  fx = fit-abs x (rw p (d .runs a m (omega arith)))
+-- an integer as a local of 64 bits holds it
+abbrev pub held : ℤ → ℤ
+held x = toZ w64 (ofZ w64 x)
 
-  fy : SFits w64 y
-  fy = fit-abs y (rw q (d .runs (a + m) k (omega arith)))
+-- x is the sum of n terms from a on, and a local holds it
+pub record IsSum (r v : List ℤ) (a n : ℕ) (x : ℤ) : Type 0 where
+  pub fits : SFits w64 x
+  pub is : held x ≡ sumZ (productAt r v) a n
 
-  both : x +ℤ y ≡ sumZ (productAt r v) a n
-  both = (cc (p, q)) ∙ sym (sumZ-split (productAt r v) a m k) ∙ ap (sumZ (productAt r v) a) all
+pub is-sum : {r v : List ℤ} {c : ℕ} → Summable r v c → (a n : ℕ) → a + n ≤ c → {x : ℤ} → x ≡ sumZ (productAt r v) a n → IsSum r v a n x
+is-sum d a n l {x} p =
+    let f : SFits w64 x = fit-abs x (rw p (d .runs a n l)) in
+    record { fits = f; is = toZ-ofZ f ∙ p }
 
-  pub join-fits : SFits w64 (toZ w64 (ofZ w64 x) +ℤ toZ w64 (ofZ w64 y))
-  join-fits = rw (toZ-ofZ fx, toZ-ofZ fy) (fit-abs (x +ℤ y) (rw both (d .runs a n (omega arith))))
+-- a term alone
+pub single : {r v : List ℤ} {c : ℕ} → Summable r v c → (a : ℕ) → a + 1 ≤ c → {x : ℤ} → x ≡ productAt r v a → IsSum r v a 1 x
+single {r} {v} d a l p = is-sum d a 1 l (p ∙ sym (sumZ-one (productAt r v) a))
 
-  pub join : toZ w64 (ofZ w64 (toZ w64 (ofZ w64 x) +ℤ toZ w64 (ofZ w64 y))) ≡ sumZ (productAt r v) a n
-  join = rw (toZ-ofZ join-fits, toZ-ofZ fx, toZ-ofZ fy) both
+-- the sum x of m terms, and y, that of the k behind them
+pub join : {r v : List ℤ} {c : ℕ} → Summable r v c → (a m k : ℕ) → a + (m + k) ≤ c → {x y : ℤ} → x ≡ sumZ (productAt r v) a m → IsSum r v (a + m) k y → IsSum r v a (m + k) (x +ℤ held y)
+join {r} {v} d a m k l p q = is-sum d a (m + k) l ((cc (p, q .is)) ∙ sym (sumZ-split (productAt r v) a m k))
 
--- the second half has fewer terms than the whole
-pub fewer : (n : ℕ) → (n ≡ 0 → ⊥) → n - (n - n / 2) < n
-fewer n h = omega arith
-
--- ---- what a part of the terms asks
+-- what a part of the terms asks
 pub part : {r y : List ℤ} {n n′ : ℕ} → Summable r y n → n′ ≤ n → Summable r y n′
 part d h = record {
   few = omega (arith, d .few);

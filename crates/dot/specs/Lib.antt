@@ -1,2 +1,3 @@
--- What the contracts of the sums cite.
+-- What the contracts of the sums cite, and the orders in which a sum can be taken.
 pub mod Sums
+pub mod Tree

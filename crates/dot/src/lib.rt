@@ -5,57 +5,42 @@ ghost use Rattle.gradient.specs.Index.{sumZ, productAt};
 ghost use Rattle.dot.specs.Sums.{inputTerm, Summable, RowSummable, weightTo, Weighable};
 
 // A product.
-fn term(r: &[i64; 16], y: &[i64; 16], a: usize) -> i64
-    requires { ⌜ Summable (now r) (now y) (a + 1) ⌝ }
-    ensures { λ x. ⌜ x ≡ sumZ (productAt (now (r .entry)) (now (y .entry))) a 1 ⌝ }
+fn product(r: &[i64; 16], y: &[i64; 16], i: usize) -> i64
+    requires { ⌜ Summable (now r) (now y) (i + 1) ⌝ }
+    ensures { λ x. ⌜ x ≡ productAt (now (r .entry)) (now (y .entry)) i ⌝ }
 {
-    r[a] * y[a]
+    r[i] * y[i]
 }
 
-// Two terms, two pairs and two fours: the ends of the recursion, so that it makes fewer calls.
-fn pair(r: &[i64; 16], y: &[i64; 16], a: usize) -> i64
-    requires { ⌜ Summable (now r) (now y) (a + 2) ⌝ }
-    ensures { λ x. ⌜ x ≡ sumZ (productAt (now (r .entry)) (now (y .entry))) a 2 ⌝ }
+// The sum of n terms from a on, one a turn.
+fn rest(r: &[i64; 16], y: &[i64; 16], a: usize, n: usize) -> i64
+    requires { ⌜ Summable (now r) (now y) (a + n) ⌝ }
+    ensures { λ x. ⌜ x ≡ sumZ (productAt (now (r .entry)) (now (y .entry))) a n ⌝ }
 {
-    term(r, y, a) + term(r, y, a + 1)
+    let mut x = 0i64;
+    let mut k = 0;
+    while k < n {
+        x += product(r, y, a + k);
+        k += 1;
+    }
+    x
 }
 
-fn four(r: &[i64; 16], y: &[i64; 16], a: usize) -> i64
-    requires { ⌜ Summable (now r) (now y) (a + 4) ⌝ }
-    ensures { λ x. ⌜ x ≡ sumZ (productAt (now (r .entry)) (now (y .entry))) a 4 ⌝ }
-{
-    pair(r, y, a) + pair(r, y, a + 2)
-}
-
-fn eight(r: &[i64; 16], y: &[i64; 16], a: usize) -> i64
-    requires { ⌜ Summable (now r) (now y) (a + 8) ⌝ }
-    ensures { λ x. ⌜ x ≡ sumZ (productAt (now (r .entry)) (now (y .entry))) a 8 ⌝ }
-{
-    four(r, y, a) + four(r, y, a + 4)
-}
-
-// The sum of n terms from a on, by halves, the first half the larger.
+// The sum of n terms from a on, four a turn and then the rest: of a loop of one product a turn the compiler makes slow vector code.
 pub fn dot(r: &[i64; 16], y: &[i64; 16], a: usize, n: usize) -> i64
     requires { ⌜ Summable (now r) (now y) (a + n) ⌝ }
     ensures { λ x. ⌜ x ≡ sumZ (productAt (now (r .entry)) (now (y .entry))) a n ⌝ }
 {
-    if n == 0 {
-        return 0;
+    let mut x = 0i64;
+    let mut i = 0;
+    while i + 4 <= n {
+        x += product(r, y, a + i)
+            + product(r, y, a + i + 1)
+            + product(r, y, a + i + 2)
+            + product(r, y, a + i + 3);
+        i += 4;
     }
-    if n == 1 {
-        return term(r, y, a);
-    }
-    if n == 2 {
-        return pair(r, y, a);
-    }
-    if n == 4 {
-        return four(r, y, a);
-    }
-    if n == 8 {
-        return eight(r, y, a);
-    }
-    let h = n - n / 2;
-    dot(r, y, a, h) + dot(r, y, a + h, n - h)
+    x + rest(r, y, a + i, n % 4)
 }
 
 // The sum of a row of the image, which starts at the part's front, times x.

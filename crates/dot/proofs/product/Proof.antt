@@ -1,6 +1,6 @@
--- `dot::term` meets its contract. Assumes nothing.
+-- `dot::product` meets its contract. Assumes nothing.
 use native.Mathlib.Omega.{arith}
-use mathlib.Core.Path.{sym}
+use mathlib.Core.Path.{refl}
 use lib.ListN.{getD}
 use lib.IntN.{ℤ, pos, _*ℤ_}
 use mir.Syntax.{w64}
@@ -10,8 +10,8 @@ use Rattle.integer.proofs.Machine.{fit-abs}
 use Rattle.gradient.specs.Index.{productAt}
 use Rattle.gradient.proofs.Index.{sumZ-one}
 use borrow.Author.Needs.{needs}
-use Rattle.dot.proofs.term.Statement.{statement}
-use Rattle.dot.proofs.term.Tie as tie
+use Rattle.dot.proofs.product.Statement.{statement}
+use Rattle.dot.proofs.product.Tie as tie
 
 -- the two factors, as they are read back
 module _ (c : tie.After-result2) where
@@ -19,20 +19,20 @@ module _ (c : tie.After-result2) where
   a = c .before .before
 
   abbrev x : ℤ
-  x = getD (a .args .r .now) (a .args .a) (pos 0)
+  x = getD (a .args .r .now) (a .args .i) (pos 0)
 
   abbrev z : ℤ
-  z = getD (a .args .y .now) (a .args .a) (pos 0)
+  z = getD (a .args .y .now) (a .args .i) (pos 0)
 
   fx : SFits w64 x
-  fx = fit-abs x (omega (arith, a .pre .left (a .args .a) (omega arith)))
+  fx = fit-abs x (omega (arith, a .pre .left (a .args .i) (omega arith)))
 
   fz : SFits w64 z
-  fz = fit-abs z (omega (arith, a .pre .right (a .args .a) (omega arith)))
+  fz = fit-abs z (omega (arith, a .pre .right (a .args .i) (omega arith)))
 
   whole : SFits w64 (x *ℤ z)
   unfolding productAt
-  whole = fit-abs (x *ℤ z) (rw (sumZ-one (productAt (a .args .r .now) (a .args .y .now)) (a .args .a)) at (a .pre .runs (a .args .a) 1 (omega arith)))
+  whole = fit-abs (x *ℤ z) (rw (sumZ-one (productAt (a .args .r .now) (a .args .y .now)) (a .args .i)) at (a .pre .runs (a .args .i) 1 (omega arith)))
 
 mul-result : tie.Need-mul-result
 mul-result c = search needs
@@ -51,10 +51,10 @@ mul-result-3 c = rw (toZ-ofZ (fx c), toZ-ofZ (fz c)) (whole c)
 
 returns : tie.Need-returns
 unfolding productAt
-returns c = rw (toZ-ofZ (mul-result-3 c), toZ-ofZ (fx c), toZ-ofZ (fz c)) (sym (sumZ-one (productAt (a c .args .r .now) (a c .args .y .now)) (a c .args .a)))
+returns c = rw (toZ-ofZ (mul-result-3 c), toZ-ofZ (fx c), toZ-ofZ (fz c)) refl
 
-pub term-spec : {M : Type 1} → statement M
-term-spec =
+pub product-spec : {M : Type 1} → statement M
+product-spec =
     tie.close
     (tie.spec
     mul-result
