@@ -1,5 +1,5 @@
 //! Document 01's cases at the edges as one table, the starred ones among them, and a few of our own behind them: edges
-//! that it implies, and those of requests 1 to 4. The figures of ours are worked out by hand from the papers.
+//! that it implies, and those of requests 1 to 5. The figures of ours are worked out by hand from the papers.
 
 mod sums;
 

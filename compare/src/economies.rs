@@ -1,6 +1,7 @@
-//! The false economies and lazy drives of document 01, and those of requests 1 to 4. Each must be found on the table of
+//! The false economies and lazy drives of document 01, and those of requests 1 to 5. Each must be found on the table of
 //! cases: a comparison that cannot fail is worthless.
 
+mod loops;
 mod sums;
 
 use crate::cases;
@@ -88,6 +89,7 @@ fn economies() -> Vec<Economy> {
     economies.extend(with_other_limits());
     economies.extend(with_other_sheets());
     economies.extend(sums::economies());
+    economies.extend(loops::economies());
     economies.extend(on_pages());
     economies.extend(without_pages());
     economies

@@ -1,5 +1,5 @@
 //! The drive without one of the requests 3 and 4, once more and on its own: all the rest of document 01 and requests 1
-//! to 4 as plain formulas on raw words, conversions in floating point.
+//! to 5 as plain formulas on raw words, conversions in floating point.
 
 use crate::image::Number;
 

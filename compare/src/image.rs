@@ -343,11 +343,18 @@ impl Problem {
         [magnitudes(&self.descent[k], points), magnitudes(&self.gains[k], &self.input_limits)]
     }
 
-    /// A row's products with some values for y and for the inputs, or with their bounds.
+    /// A row's products with some values for y and for the inputs, or with their bounds, each as often as it is added.
     pub fn row(&self, k: usize, points: &[i64], inputs: &[i64]) -> Row {
         let mut states: Vec<i128> = products(&self.gains[k], inputs).collect();
         let targets = states.split_off(self.sizes.states);
-        Row { commands: products(&self.descent[k], points).collect(), states, targets, bits: self.sizes.bits }
+        let commands = products(&self.descent[k], points).collect();
+        let mut row = Row { commands, states, targets, bits: self.sizes.bits };
+        if let Some((terms, times)) = self.rules.other_loop {
+            let terms = terms(&mut row);
+            let count = terms.len();
+            terms.into_iter().enumerate().for_each(|(i, term)| *term *= times(i, count));
+        }
+        row
     }
 }
 

@@ -1,4 +1,4 @@
-//! The second program: document 01 with requests 1 to 4 implemented on its own, beside the static library, the label
+//! The second program: document 01 with requests 1 to 5 implemented on its own, beside the static library, the label
 //! program and the page program.
 
 mod big;
@@ -35,8 +35,8 @@ compare --label and compare --page act as the label and the page program in the 
 /// Random solves of a run; the other groups are in proportion.
 const COUNT: u64 = 100_000;
 const LONG_COUNT: u64 = 20 * COUNT;
-/// From this count on a run has to have met every number of every call, every size, every nr with every n, limits that
-/// change along every N, every edge of check 12, and all that request 4 changes.
+/// From this count on a run has to have met every number of every call, every size, every nr with every n and with every
+/// nx, limits that change along every N, every edge of check 12, and all that request 4 changes.
 const COVERING_COUNT: u64 = 20_000;
 
 struct Options {
@@ -177,12 +177,13 @@ fn require_cover(harness: &mut Harness) {
 }
 
 fn require_problems(harness: &mut Harness) {
-    let covered = [harness.sizes.len(), harness.formats.len(), harness.targets.len()];
-    let [sizes, formats, targets] = covered;
-    println!("accepted solves: {sizes} of 396 sizes, {formats} of 320 pairs of b and W, {targets} of 80 of n and nr");
-    harness.check(covered == [396, 320, 80], || "  some sizes were never solved".to_string());
+    let covered = [harness.sizes.len(), harness.formats.len(), harness.targets.len(), harness.inputs.len()];
+    let [sizes, formats, targets, inputs] = covered;
+    println!("random accepted solves: {sizes} of 396 sizes, {formats} of 320 pairs of b and W");
+    println!("random accepted solves: {targets} of 80 pairs of n and nr, {inputs} of 60 of nx and nr");
+    harness.check(covered == [396, 320, 80, 60], || "  some sizes were never solved".to_string());
     let changing = harness.changing.len();
-    println!("accepted solves with limits that change: {changing} of 29 pairs of nu and N above 1");
+    println!("random accepted solves with limits that change: {changing} of 29 pairs of nu and N above 1");
     harness.check(changing == 29, || "  some steps never had limits of their own".to_string());
     println!("accepted pages: {} of 16 pairs of kind and mark", harness.marks.len());
     for (kind, mark) in (b'2'..=b'9').flat_map(|kind| [(kind, b'K'), (kind, b'M')]) {

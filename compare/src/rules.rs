@@ -1,5 +1,5 @@
-//! Where a false economy departs from the rules of document 01 and requests 1, 3 and 4; those of request 2 change the
-//! page alone.
+//! Where a false economy departs from the rules of document 01 and requests 1, 3, 4 and 5; those of request 2 change
+//! the page alone.
 
 use crate::image::{Problem, Sizes};
 
@@ -31,6 +31,12 @@ pub struct Row {
     pub bits: u32,
 }
 
+/// The terms of one of a row's sums, in their order.
+pub type Terms = fn(&mut Row) -> Vec<&mut i128>;
+
+/// How often a loop adds the term of an index, given the number of terms.
+pub type Times = fn(usize, usize) -> i128;
+
 /// The default is the papers' rules.
 #[derive(Clone, Copy, Default)]
 pub struct Rules {
@@ -45,6 +51,8 @@ pub struct Rules {
     pub target_limit_below_zero: bool,
     /// Another c of n and of nx + nr.
     pub other_c: Option<fn(usize, usize) -> usize>,
+    /// Another loop over the terms of a sum, in the row that `other_t` is given.
+    pub other_loop: Option<(Terms, Times)>,
     /// Another t of a row's products.
     pub other_t: Option<fn(&Row) -> i128>,
     /// Another A + B of a row, behind the tests of P and Y.

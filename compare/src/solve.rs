@@ -4,7 +4,7 @@ use crate::big::Big;
 use crate::image::{Number, Problem, Sizes, bytes, open, products, words};
 use crate::rules::{Rules, Use};
 
-/// The rounded scheme. Sums are exact, so the order in which document 01 takes them is left to the drive.
+/// The rounded scheme. Sums are exact, so the order of their terms is left to the drive.
 pub struct Rounded<'a> {
     problem: &'a Problem,
     inputs: Vec<i64>,

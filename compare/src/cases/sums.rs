@@ -1,4 +1,4 @@
-//! Request 4's cases: sums that are rounded once, and the headroom of sums.
+//! The cases of requests 4 and 5: sums that are rounded once, the headroom of sums, and rows of many lengths.
 
 use super::Expect::{self, *};
 use super::{Case, case, coupled, runs, runs_to, sample, uncoupled};
@@ -6,7 +6,7 @@ use crate::draft::Draft;
 use crate::image::{COST, GAIN, HIGH, LOW, MOMENTUM, STATE_LIMIT, Sizes, TARGET_GAIN, TARGET_LIMIT};
 
 pub fn table() -> Vec<Case> {
-    let solved = [rounded_inputs(), rounded_commands(), small_c(), long_sums()];
+    let solved = [rounded_inputs(), rounded_commands(), small_c(), long_sums(), long_rows()];
     let tested = [headroom_once(), headroom_twice(), beyond_64_bits(), within_64_bits()];
     solved.into_iter().chain(tested).flatten().collect()
 }
@@ -35,11 +35,11 @@ fn resized(draft: Draft, bits: u32, width: u32) -> Draft {
     Draft { sizes: Sizes { bits, width, ..draft.sizes }, ..draft }
 }
 
-/// Sixteen steps at b 5, each with a part in all others: M is 16 and beside it 1, and its rows come to 31 / 32. 11 is
-/// met from β 23 on.
-fn sixteen() -> Draft {
-    let sizes = Sizes { steps: 16, bits: 5, ..sample().sizes };
-    let cost: Vec<i64> = (0..256).map(|i| if i % 17 == 0 { 16 } else { -1 }).collect();
+/// Steps at b 5, each with a part in all others: M is 16 and beside it 1. With sixteen the rows come to 31 / 32, and 11
+/// is met from β 23 on.
+fn all_coupled(steps: usize) -> Draft {
+    let sizes = Sizes { steps, bits: 5, ..sample().sizes };
+    let cost: Vec<i64> = (0..steps * steps).map(|i| if i % (steps + 1) == 0 { 16 } else { -1 }).collect();
     uncoupled(sizes).with(COST, &cost).with(MOMENTUM, &[24])
 }
 
@@ -92,7 +92,7 @@ fn rounded_commands() -> Vec<Case> {
     // −0.75. q = 1 + 1 + 1 (0.75), 31 × 3 / 32 is 3, 3 + 1.
     let (minus, ones, fours) = ([-1; 16], [1; 16], [4; 16]);
     let rows: [&[i64]; 2] = [&[minus, ones].concat(), &[minus, fours].concat()];
-    table.extend(runs_from("sixteen commands", &sixteen(), &minus, &rows));
+    table.extend(runs_from("sixteen commands", &all_coupled(16), &minus, &rows));
     // 0.5 is 0. y = 0 − 0, for 0 and 0.5, and not −0.5, which would be −1. e is that of S with β 8.
     let rows: [&[i64]; 3] = [&[0, 1], &[0, 3], &[0, 4]];
     table.extend(runs_from("two roundings of y", &sample().with(MOMENTUM, &[8]), &[1], &rows));
@@ -131,6 +131,37 @@ fn long_sums() -> Vec<Case> {
     ]
 }
 
+/// Request 5: rows of five to eight terms, which are a group of four with every rest, and two groups. The terms are
+/// powers of two in counts, so that one that is missed or repeated shows.
+fn long_rows() -> Vec<Case> {
+    let powers = |unit: i64, count: usize| (0..count).map(|j| unit << j).collect::<Vec<i64>>();
+    // z = −h, which is 1 + 2 + 4 + 8 + 16, then 32, 64 and 128 more.
+    let h = |h: i64, count: usize| {
+        let state = powers(1, count);
+        let inputs: Vec<Input> = state.iter().map(|&limit| (16, limit)).collect();
+        let draft = resized(with_inputs(&inputs, &[]), 4, 16).with(LOW, &[-999]).with(HIGH, &[999]);
+        case(&format!("h of {count} states"), &draft.iterations(1), &state, Answer(vec![-h, 1]))
+    };
+    // M is 16 and beside it 1, over 32: a start of 32 × 2^j is 2^j counts in each row, and 15 × 2^j more in its own.
+    let m_y = |commands: &[i64]| {
+        let n = commands.len();
+        let draft = resized(all_coupled(n), 5, 16).with(LOW, &vec![-4096; n]).with(HIGH, &vec![4096; n]);
+        let row = [commands, &vec![1; n]].concat();
+        case(&format!("M y of {n} commands"), &draft.iterations(1), &[0], Answer(row)).start(&powers(32, n))
+    };
+    vec![
+        h(31, 5),
+        h(63, 6),
+        h(127, 7),
+        h(255, 8),
+        // 31, 63, 127 and 255, and 15, 30, 60, 120, 240, 480, 960 and 1920.
+        m_y(&[46, 61, 91, 151, 271]),
+        m_y(&[78, 93, 123, 183, 303, 543]),
+        m_y(&[142, 157, 187, 247, 367, 607, 1087]),
+        m_y(&[270, 285, 315, 375, 495, 735, 1215, 2175]),
+    ]
+}
+
 /// A draft that is accepted, or refused 12.
 fn headroom(name: &str, draft: &Draft, expect: Expect) -> Case {
     let zeros = |length: usize| vec![0; length];
@@ -157,7 +188,7 @@ fn headroom_once() -> Vec<Case> {
     };
     // A is 31 / 32; each of its terms would be 1.
     let all = |limit: i64, expect| {
-        let draft = sixteen().with(LOW, &[1; 16]).with(HIGH, &[1; 16]).with(GAIN, &[32; 16]);
+        let draft = all_coupled(16).with(LOW, &[1; 16]).with(HIGH, &[1; 16]).with(GAIN, &[32; 16]);
         headroom(&format!("A of sixteen, state limit {limit}"), &draft.with(STATE_LIMIT, &[limit]), expect)
     };
     vec![

@@ -6,11 +6,11 @@ use crate::rules::{Row, Rules, Use};
 
 /// Terms over 2^b, rounded by their sum or one by one.
 impl Row {
-    fn inputs(&self) -> Vec<i128> {
+    pub fn inputs(&self) -> Vec<i128> {
         [&self.states[..], &self.targets].concat()
     }
 
-    fn down(&self, terms: &[i128]) -> i128 {
+    pub fn down(&self, terms: &[i128]) -> i128 {
         terms.iter().sum::<i128>() >> self.bits
     }
 
