@@ -7,7 +7,9 @@
  *
  * What the caller owes: each pointer is valid for its length (for a length of 0 any pointer that is not null will do), the
  * buffer that is written overlaps no other buffer of the call, and no other thread writes to a buffer during the call.
- * The calls keep no state, use no heap, and always return. A call uses less than 16 KiB of stack (measured).
+ * The calls keep no state, use no heap, and always return. They do not recurse: no routine of the library calls itself,
+ * directly or through others, and none calls through a pointer. So a call's stack has a bound for all inputs, the frames
+ * along its longest path of calls: GANTRY_STACK_BYTES, below.
  */
 #ifndef GANTRY_H
 #define GANTRY_H
@@ -36,6 +38,10 @@ extern "C" {
 /* Large enough for every image and every page: n 16, nx 12, nr 4. */
 #define GANTRY_MAX_IMAGE_BYTES GANTRY_IMAGE_BYTES(GANTRY_MAX_COMMANDS, GANTRY_MAX_STATES, GANTRY_MAX_TARGETS)
 #define GANTRY_MAX_PAGE_BYTES GANTRY_PAGE_BYTES(GANTRY_MAX_COMMANDS, GANTRY_MAX_STATES, GANTRY_MAX_TARGETS)
+
+/* Stack enough for any call. The compiled archive takes about 8 KiB at most, read off its machine code (README has the
+ * figures); memcpy and memset, which the firmware supplies, come on top. */
+#define GANTRY_STACK_BYTES 12288
 
 /* The numbers. */
 enum gantry_number {
