@@ -8,8 +8,8 @@
  * What the caller owes: each pointer is valid for its length (for a length of 0 any pointer that is not null will do), the
  * buffer that is written overlaps no other buffer of the call, and no other thread writes to a buffer during the call.
  * The calls keep no state, use no heap, and always return. They do not recurse: no routine of the library calls itself,
- * directly or through others, and none calls through a pointer. So a call's stack has a bound for all inputs, the frames
- * along its longest path of calls: GANTRY_STACK_BYTES, below.
+ * directly or through others, and none calls through a pointer. So the stack of a call has a bound for all inputs:
+ * GANTRY_STACK_BYTES, below.
  */
 #ifndef GANTRY_H
 #define GANTRY_H

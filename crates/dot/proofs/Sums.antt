@@ -12,14 +12,14 @@ use Rattle.gradient.specs.Index.{sumZ, productAt}
 use Rattle.gradient.proofs.Index.{sumZ-split, sumZ-one}
 use Rattle.dot.specs.Sums.{Summable}
 
--- an integer as a local of 64 bits holds it
-abbrev pub held : ℤ → ℤ
-held x = toZ w64 (ofZ w64 x)
+-- an integer as it is read back from a local of 64 bits
+abbrev pub stored : ℤ → ℤ
+stored x = toZ w64 (ofZ w64 x)
 
--- x is the sum of n terms from a on, and a local holds it
+-- x is the sum of n terms from a on, and a local can hold it
 pub record IsSum (r v : List ℤ) (a n : ℕ) (x : ℤ) : Type 0 where
   pub fits : SFits w64 x
-  pub is : held x ≡ sumZ (productAt r v) a n
+  pub is : stored x ≡ sumZ (productAt r v) a n
 
 pub is-sum : {r v : List ℤ} {c : ℕ} → Summable r v c → (a n : ℕ) → a + n ≤ c → {x : ℤ} → x ≡ sumZ (productAt r v) a n → IsSum r v a n x
 is-sum d a n l {x} p =
@@ -31,7 +31,7 @@ pub single : {r v : List ℤ} {c : ℕ} → Summable r v c → (a : ℕ) → a +
 single {r} {v} d a l p = is-sum d a 1 l (p ∙ sym (sumZ-one (productAt r v) a))
 
 -- the sum x of m terms, and y, that of the k behind them
-pub join : {r v : List ℤ} {c : ℕ} → Summable r v c → (a m k : ℕ) → a + (m + k) ≤ c → {x y : ℤ} → x ≡ sumZ (productAt r v) a m → IsSum r v (a + m) k y → IsSum r v a (m + k) (x +ℤ held y)
+pub join : {r v : List ℤ} {c : ℕ} → Summable r v c → (a m k : ℕ) → a + (m + k) ≤ c → {x y : ℤ} → x ≡ sumZ (productAt r v) a m → IsSum r v (a + m) k y → IsSum r v a (m + k) (x +ℤ stored y)
 join {r} {v} d a m k l p q = is-sum d a (m + k) l ((cc (p, q .is)) ∙ sym (sumZ-split (productAt r v) a m k))
 
 -- what a part of the terms asks

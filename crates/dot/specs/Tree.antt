@@ -40,7 +40,7 @@ halves n = halvesWithin n n
 abbrev pub SameSums : Type 0
 SameSums = (t u : Tree) (f : ℕ → ℤ) (a : ℕ) → terms t ≡ terms u → treeSum t f a ≡ treeSum u f a
 
--- the former adder tree has the sum that a row sum promises
+-- the former adder tree, of one term or more, has the sum that a row sum promises
 abbrev pub SumsByHalves : Type 0
 SumsByHalves = (f : ℕ → ℤ) (a n : ℕ) → 1 ≤ n → treeSum (halves n) f a ≡ sumZ f a n
 

@@ -4,7 +4,7 @@ ghost use Prim.Native.Nat.{_+_};
 ghost use Rattle.gradient.specs.Index.{sumZ, productAt};
 ghost use Rattle.dot.specs.Sums.{inputTerm, Summable, RowSummable, weightTo, Weighable};
 
-// A product.
+// Term i, a product.
 fn product(r: &[i64; 16], y: &[i64; 16], i: usize) -> i64
     requires { ⌜ Summable (now r) (now y) (i + 1) ⌝ }
     ensures { λ x. ⌜ x ≡ productAt (now (r .entry)) (now (y .entry)) i ⌝ }

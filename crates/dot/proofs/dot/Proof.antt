@@ -6,7 +6,7 @@ use lib.IntN.{ℤ, _+ℤ_}
 use mir.Syntax.{w64}
 use mir.Val.{toZ}
 use Rattle.gradient.specs.Index.{sumZ, productAt}
-use Rattle.dot.proofs.Sums.{held, IsSum, is-sum, single, join, part}
+use Rattle.dot.proofs.Sums.{stored, IsSum, is-sum, single, join, part}
 use Rattle.dot.proofs.dot.Statement.{statement}
 use Rattle.dot.proofs.dot.Tie as tie
 
@@ -31,17 +31,17 @@ module _ (c : tie.In-loop Inv-loop μ-loop) where
   Sums k x = IsSum (s .args .r .now) (s .args .y .now) at k x
 
   -- one term more
-  more : (k : ℕ) → k < 4 → {x y : ℤ} → Sums k x → y ≡ term k → Sums (k + 1) (held x +ℤ held y)
+  more : (k : ℕ) → k < 4 → {x y : ℤ} → Sums k x → y ≡ term k → Sums (k + 1) (stored x +ℤ stored y)
   more k h p e = join (s .pre) at k 1 (omega arith) (p .is) (single (s .pre) (at + k) (omega arith) e)
 
 -- the sums of the terms of a turn, one after the other
 one : (c : tie.After-product Inv-loop μ-loop) → Sums (c .before) 1 (c .product .result)
 one c = single (s (c .before) .pre) (at (c .before)) (omega arith) (c .product .ensures)
 
-two : (c : tie.After-product2 Inv-loop μ-loop) → Sums (c .before .before) 2 (held (c .before .product .result) +ℤ held (c .product2 .result))
+two : (c : tie.After-product2 Inv-loop μ-loop) → Sums (c .before .before) 2 (stored (c .before .product .result) +ℤ stored (c .product2 .result))
 two c = more (c .before .before) 1 (omega arith) (one (c .before)) (c .product2 .ensures)
 
-three : (c : tie.After-product3 Inv-loop μ-loop) → Sums (c .before .before .before) 3 (held (held (c .before .before .product .result) +ℤ held (c .before .product2 .result)) +ℤ held (c .product3 .result))
+three : (c : tie.After-product3 Inv-loop μ-loop) → Sums (c .before .before .before) 3 (stored (stored (c .before .before .product .result) +ℤ stored (c .before .product2 .result)) +ℤ stored (c .product3 .result))
 three c = more (c .before .before .before) 2 (omega arith) (two (c .before)) (c .product3 .ensures)
 
 loop-holds : tie.Need-loop-holds Inv-loop μ-loop
@@ -94,12 +94,12 @@ module _ (c : tie.After-product4 Inv-loop μ-loop) where
   t = c .before .before .before .before
 
   abbrev x4 : ℤ
-  x4 = held (held (held (c .before .before .before .product .result) +ℤ held (c .before .before .product2 .result)) +ℤ held (c .before .product3 .result)) +ℤ held (c .product4 .result)
+  x4 = stored (stored (stored (c .before .before .before .product .result) +ℤ stored (c .before .before .product2 .result)) +ℤ stored (c .before .product3 .result)) +ℤ stored (c .product4 .result)
 
   four : Sums t 4 x4
   four = more t 3 (omega arith) (three (c .before)) (c .product4 .ensures)
 
-  all : IsSum (s t .args .r .now) (s t .args .y .now) (s t .args .a) (t .before .loop .i + 4) (toZ w64 (t .before .loop .x) +ℤ held x4)
+  all : IsSum (s t .args .r .now) (s t .args .y .now) (s t .args .a) (t .before .loop .i + 4) (toZ w64 (t .before .loop .x) +ℤ stored x4)
   all = join (s t .pre) (s t .args .a) (t .before .loop .i) 4 (omega arith) (t .before .loop .inv .0) four
 
 add-x-3 : tie.Need-add-x-3 Inv-loop μ-loop
@@ -137,7 +137,7 @@ module _ (c : tie.After-rest Inv-loop μ-loop) where
   rest : IsSum (e .args .r .now) (e .args .y .now) (e .args .a + i) (e .args .n % 4) (c .rest .result)
   rest = is-sum (e .pre) (e .args .a + i) (e .args .n % 4) (omega arith) (c .rest .ensures)
 
-  whole : IsSum (e .args .r .now) (e .args .y .now) (e .args .a) (i + e .args .n % 4) (toZ w64 (c .before .before .loop .x) +ℤ held (c .rest .result))
+  whole : IsSum (e .args .r .now) (e .args .y .now) (e .args .a) (i + e .args .n % 4) (toZ w64 (c .before .before .loop .x) +ℤ stored (c .rest .result))
   whole = join (e .pre) (e .args .a) i (e .args .n % 4) (omega arith) (c .before .before .loop .inv .0) rest
 
 add-result : tie.Need-add-result Inv-loop μ-loop

@@ -6,7 +6,7 @@ use lib.IntN.{_+ℤ_}
 use mir.Syntax.{w64}
 use mir.Val.{toZ}
 use Rattle.gradient.specs.Index.{sumZ, productAt}
-use Rattle.dot.proofs.Sums.{held, IsSum, single, join, part}
+use Rattle.dot.proofs.Sums.{stored, IsSum, single, join, part}
 use Rattle.dot.proofs.rest.Statement.{statement}
 use Rattle.dot.proofs.rest.Tie as tie
 
@@ -24,7 +24,7 @@ module _ (c : tie.After-product Inv-loop μ-loop) where
   abbrev k : ℕ
   k = c .before .before .loop .k
 
-  next : IsSum (s .args .r .now) (s .args .y .now) (s .args .a) (k + 1) (toZ w64 (c .before .before .loop .x) +ℤ held (c .product .result))
+  next : IsSum (s .args .r .now) (s .args .y .now) (s .args .a) (k + 1) (toZ w64 (c .before .before .loop .x) +ℤ stored (c .product .result))
   next = join (s .pre) (s .args .a) k 1 (omega arith) (c .before .before .loop .inv .0) (single (s .pre) (s .args .a + k) (omega arith) (c .product .ensures))
 
 loop-holds : tie.Need-loop-holds Inv-loop μ-loop
