@@ -39,8 +39,8 @@ extern "C" {
 #define GANTRY_MAX_IMAGE_BYTES GANTRY_IMAGE_BYTES(GANTRY_MAX_COMMANDS, GANTRY_MAX_STATES, GANTRY_MAX_TARGETS)
 #define GANTRY_MAX_PAGE_BYTES GANTRY_PAGE_BYTES(GANTRY_MAX_COMMANDS, GANTRY_MAX_STATES, GANTRY_MAX_TARGETS)
 
-/* Stack enough for any call. The compiled archive takes about 8 KiB at most, read off its machine code (README has the
- * figures); memcpy and memset, which the firmware supplies, come on top. */
+/* Stack enough for any call: the compiled archive takes about 8 KiB at most, read off its machine code (README has the
+ * figures), and the rest is for the memcpy and memset that the firmware supplies. */
 #define GANTRY_STACK_BYTES 12288
 
 /* The numbers. */
