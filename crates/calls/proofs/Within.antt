@@ -8,16 +8,15 @@ use lib.IntN.{ℤ, pos, natAbs}
 use lib.Signed.{leZ}
 use Rattle.word.specs.Word.{wordAt, wordsAt}
 use Rattle.word.proofs.Words.{length-words-at, getD-words-front}
-use Rattle.gradient.specs.Problem.{Command}
 use Rattle.gradient.specs.Demand.{startWithin}
 use Rattle.gradient.specs.Index.{allTo}
 use Rattle.gradient.proofs.Tests.{every2-to}
 use Rattle.image.specs.declared.Sizes.{Sizes}
 use Rattle.image.specs.declared.Input.{Input}
 use Rattle.image.specs.Sizes.{commandCount, inputCount}
-use Rattle.image.specs.Layout.{lowerAt, upperAt, boundAt, boundsOf, commandAt, problemAt}
+use Rattle.image.specs.Layout.{lowerAt, upperAt, boundAt, boundsOf, problemAt}
 use Rattle.interface.specs.Calls.{valuesOf, valuesWithin, startOf}
-use Rattle.interface.proofs.Accept.{commands-length, command-at, bounds-count, input-bound-at}
+use Rattle.interface.proofs.Accept.{within-to, bounds-count, input-bound-at}
 
 -- ---- 13 and 16: a value of an input, and its limit
 abbrev pub valueTest : Input → Sizes → List ℕ → List ℕ → ℕ → Bool
@@ -36,8 +35,7 @@ abbrev pub startTest : Sizes → List ℕ → List ℕ → ℕ → Bool
 startTest z s start k = leZ (lowerAt z s k) (wordAt start (4 * k)) && leZ (wordAt start (4 * k)) (upperAt z s k)
 
 pub start-to : (z : Sizes) (s start : List ℕ) → startWithin (problemAt z s) (startOf z start) ≡ allTo (startTest z s start) (commandCount z)
-unfolding startWithin startOf commandAt
+unfolding startOf
 start-to z s start =
-    every2-to (λ (r : Command) (x : ℤ). leZ (r .lower) x && leZ x (r .upper)) (problemAt z s .commands) (wordsAt start 0 (commandCount z)) (commandAt z s 0) (pos 0) (commandCount z)
-    (commands-length z s) (length-words-at start 0 (commandCount z)) (startTest z s start)
-    (λ k l. rw (command-at z s (commandAt z s 0) k l, getD-words-front start (commandCount z) k l))
+    let n = commandCount z in
+    within-to z s (wordsAt start 0 n) (λ (k : ℕ). wordAt start (4 * k)) (length-words-at start 0 n) (λ k l. getD-words-front start n k l)

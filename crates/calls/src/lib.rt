@@ -1,12 +1,10 @@
 // The checks of a call, 13 to 16, and the numbers of a solve and of a cold start.
 ghost use mathlib.Core.Path.{_≡_};
-ghost use mathlib.Core.Bool.{_&&_};
-ghost use Prim.Native.Nat.{_*_, _<_};
+ghost use Prim.Native.Nat.{_*_};
 ghost use lib.ListN.{length};
-ghost use lib.Signed.{leZ};
 ghost use Rattle.gradient.specs.Demand.{startWithin};
 ghost use Rattle.image.specs.Sizes.{Whole, commandCount, inputCount};
-ghost use Rattle.image.specs.Layout.{sizesOf, problemAt, lowerAt, upperAt};
+ghost use Rattle.image.specs.Layout.{sizesOf, problemAt};
 ghost use Rattle.interface.specs.Calls.{valuesWithin, inputPasses, startOf, callNumber, solveNumber, coldNumber};
 use image::Input;
 use image::Sizes;
@@ -39,17 +37,6 @@ pub fn input_passes(image: &[u8], z: Sizes, v: Input, values: &[u8]) -> bool
     values_pass(image, z, v, values)
 }
 
-// Whether x is within the limits of command k.
-fn is_inside(image: &[u8], z: Sizes, k: usize, x: i64) -> bool
-    requires { ⌜ Whole z (now image) × (k < commandCount z) ⌝ }
-    ensures { λ r. ⌜ r ≡ leZ (lowerAt z (now (image .entry)) k) x && leZ x (upperAt z (now (image .entry)) k) ⌝ }
-{
-    if image::lower_at(image, z, k) <= x {
-        return x <= image::upper_at(image, z, k);
-    }
-    false
-}
-
 // Whether each command of the start is within its limits.
 fn start_passes(image: &[u8], z: Sizes, start: &[u8]) -> bool
     requires { ⌜ Whole z (now image) × (length (now start) ≡ 4 * commandCount z) ⌝ }
@@ -58,7 +45,7 @@ fn start_passes(image: &[u8], z: Sizes, start: &[u8]) -> bool
     let n = z.nu * z.steps;
     let mut k = 0;
     while k < n {
-        if !is_inside(image, z, k, word::word_at(start, 4 * k)) {
+        if !row_tests::is_inside(image, z, k, word::word_at(start, 4 * k)) {
             return false;
         }
         k += 1;

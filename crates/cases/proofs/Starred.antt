@@ -24,8 +24,8 @@ use Rattle.sheet.specs.Sheet.{sheetImage, sheetNumber, sheetWords}
 use Rattle.intake.specs.Intake.{designNumber}
 use Rattle.page_line.specs.Effect.{isKept, effectOf, lineText}
 use Rattle.design_page.specs.Page.{designCount, pageLine, pageNumber, sheetPage}
-use Rattle.cases.specs.Cases.{holds, table, S, two, following, varying, halved, full, wide}
+use Rattle.cases.specs.Cases.{holds, table, S, two, following, varying, limited, skewed, halved, full, wide}
 
 pub starred : every holds table ≡ true
-unfolding floor ceil clamp numberBE digitsBE natBE bytesBE wordsAt wordsOut scalable rounded accepted ofBits F coldStart linear unclamped nextZ nextY step iterate magnitude width rangeP rangeY rangeA rangeB slack weight nextE nextQ errorStep errorAfter every every2 startWithin sound sizesOf lowerAt upperAt momentumAt boundAt entryOf commandAt problemAt problemOf headNumber bodyNumber symmetryTest othersAt marginAt totalAt leastMargin largestTotal momentumRange momentumRatio pointTest rowTest tablesNumber imageNumber valuesOf inputsOf startOf coldAnswer valuesWithin callNumber solveNumber commandsAfter boundsAfter eq size round toBits joined isHex digitOf hexes hexAt digitByte hexDigits lineAt dueAt headOf total wordOf lineFault lineValue lineWord sheetImage sheetNumber sheetWords designNumber isKept effectOf lineText designCount pageLine pageNumber sheetPage holds table S two following varying halved full wide
+unfolding floor ceil clamp numberBE digitsBE natBE bytesBE wordsAt wordsOut scalable rounded accepted ofBits F coldStart linear unclamped nextZ nextY step iterate magnitude width rangeP rangeY rangeA rangeB slack weight nextE nextQ errorStep errorAfter every every2 startWithin sound sizesOf lowerAt upperAt momentumAt boundAt entryOf commandAt problemAt problemOf headNumber bodyNumber symmetryTest othersAt marginAt totalAt leastMargin largestTotal momentumRange momentumRatio pointTest rowTest tablesNumber imageNumber valuesOf inputsOf startOf coldAnswer valuesWithin callNumber solveNumber commandsAfter boundsAfter eq size round toBits joined isHex digitOf hexes hexAt digitByte hexDigits lineAt dueAt headOf total wordOf lineFault lineValue lineWord sheetImage sheetNumber sheetWords designNumber isKept effectOf lineText designCount pageLine pageNumber sheetPage holds table S two following varying limited skewed halved full wide
 starred = refl

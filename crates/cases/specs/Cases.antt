@@ -66,6 +66,15 @@ unfoldable pub varying : ℕ → ℤ → ℤ → List ℕ
 varying beta low high =
     wordsOut (map pos (1 ∷ 2 ∷ 1 ∷ 4 ∷ 8 ∷ 3 ∷ 0 ∷ 0 ∷ 8 ∷ 0 ∷ 0 ∷ 8 ∷ 16 ∷ 16 ∷ []) ++ (negsuc 19 ∷ low ∷ pos 20 ∷ high ∷ map pos (beta ∷ 10 ∷ [])))
 
+-- S with limits of its own
+unfoldable pub limited : ℤ → ℤ → List ℕ
+limited low high = wordsOut (map pos (1 ∷ 1 ∷ 1 ∷ 4 ∷ 8 ∷ 3 ∷ 0 ∷ 0 ∷ 8 ∷ 16 ∷ []) ++ (low ∷ high ∷ map pos (0 ∷ 10 ∷ [])))
+
+-- one motor, two steps, and H with rows (8, 1), (0, 8), which is not symmetric: step 0 has S's limits, step 1 limits of its own
+unfoldable pub skewed : ℤ → ℤ → List ℕ
+skewed low high =
+    wordsOut (map pos (1 ∷ 2 ∷ 1 ∷ 4 ∷ 8 ∷ 3 ∷ 0 ∷ 0 ∷ 8 ∷ 1 ∷ 0 ∷ 8 ∷ 16 ∷ 16 ∷ []) ++ (negsuc 19 ∷ low ∷ pos 20 ∷ high ∷ map pos (0 ∷ 10 ∷ [])))
+
 -- S with limits −l and l, a state and a target value, and half of each as h
 unfoldable pub halved : ℕ → ℕ → ℕ → List ℕ
 halved l state target =
@@ -176,4 +185,25 @@ table =
     ∷ numbers (full 1) 12
     -- B's sum is 2^66 − 2^36 + 16, which wraps to a number below 0 in 64 bits
     ∷ numbers wide 12
+    -- request 6: a low of 1, and a high of −1, are 17, at the only step and by step 1 alone; zero at either limit, or at both, passes
+    ∷ numbers (limited (pos 1) (pos 20)) 17
+    ∷ numbers (limited (negsuc 19) (negsuc 0)) 17
+    ∷ numbers (varying 0 (pos 1) (pos 5)) 17
+    ∷ numbers (varying 0 (negsuc 4) (negsuc 0)) 17
+    ∷ numbers (varying 0 (pos 0) (pos 5)) 0
+    ∷ numbers (varying 0 (negsuc 4) (pos 0)) 0
+    ∷ numbers (varying 0 (pos 0) (pos 0)) 0
+    -- 7 comes before, also for document 01's low of 1 with a high of 0; 8 and 13 come behind
+    ∷ numbers (limited (pos 1) (pos 0)) 7
+    ∷ numbers (skewed (pos 1) (pos 5)) 17
+    ∷ numbers (skewed (pos 0) (pos 5)) 8
+    ∷ answers (limited (pos 1) (pos 20)) (pos 11) [] 17
+    ∷ answers (limited (pos 0) (pos 20)) (pos 10) [] 0
+    -- a one-sided step 1, from zeros: it stays at its limit of 0, and with the state's other sign goes to 5, and its bound to w
+    ∷ solves (varying 0 (pos 0) (pos 5)) (pos 10) [] 3 (negsuc 17 ∷ pos 0 ∷ []) (3 ∷ 3 ∷ [])
+    ∷ solves (varying 0 (pos 0) (pos 2)) (negsuc 9) [] 3 (pos 17 ∷ pos 2 ∷ []) (3 ∷ 2 ∷ [])
+    -- S with a low limit of 0.03125, rounded up to 1, and of −0.03125, rounded up to 0; a high of −0.03125, rounded down to −1
+    ∷ pages (changed 3 0x0400003FA0000000000000) 264 17
+    ∷ pages (changed 3 0x040000BFA0000000000000) 264 0
+    ∷ pages (changed 4 0x050000BFA0000000000000) 264 17
     ∷ []

@@ -5,4 +5,5 @@ pub mod Scale
 pub mod Convert
 pub mod Back
 pub mod Same
+pub mod Sides
 pub mod Pattern

@@ -1,3 +1,4 @@
 -- What contracts cite.
 pub mod Double
 pub mod Examples
+pub mod Sides

@@ -19,7 +19,7 @@ use Rattle.image.specs.declared.Input.the-variants.{State, Target}
 use Rattle.image.specs.Sizes.{commandCount, inputCount, bodyCount}
 use Rattle.image.specs.Layout.{sizesOf, upperPlace, momentumPlace, gainsFrom, boundsFrom, lowerPlace, lowerAt, upperAt, momentumAt, boundAt, gainsOf, boundsOf, commandAt, problemAt, problemOf}
 use Rattle.image.specs.Checks.{boundTest, headNumber, bodyNumber}
-use Rattle.interface.specs.Tables.{orderTest, momentumRange, momentumRatio, pointTest, rowTest, tablesNumber, imageNumber}
+use Rattle.interface.specs.Tables.{orderTest, stopTest, momentumRange, momentumRatio, pointTest, rowTest, tablesNumber, imageNumber}
 use Rattle.interface.specs.Calls.{inputsOf, startOf, valuesWithin, coldNumber, coldAnswer, callNumber, solveNumber, commandsAfter, boundsAfter, solveAnswer}
 use Rattle.former.specs.Former as former
 use Rattle.former.specs.Relaid.{SameCalls}
@@ -77,7 +77,7 @@ module _ (z : Sizes) (one : z .steps ≡ 1) where
     unfolding problemAt former.problemAt
     problem-same = rw (momentum-same, bounds-same State, bounds-same Target, tab-cong (commandAt z s) (former.commandAt z s) _ command-same)
 
-    -- checks 5 and 7 to 12
+    -- checks 5, 7, 17 and 8 to 12
     body-same : bodyNumber z s ≡ former.bodyNumber z s
     unfolding bodyNumber former.bodyNumber
     body-same =
@@ -100,6 +100,7 @@ module _ (z : Sizes) (one : z .steps ≡ 1) where
     tables-same =
         rw (
           all-cong (orderTest z s) (former.orderTest z s) (commandCount z) (λ k h. rw (lower-same k h, upper-same k h)),
+          all-cong (stopTest z s) (former.stopTest z s) (commandCount z) (λ k h. rw (lower-same k h, upper-same k h)),
           momentum-same,
           all-cong (pointTest z s) (former.pointTest z s) (commandCount z) point-same,
           all-cong (rowTest z s) (former.rowTest z s) (commandCount z) row-same,

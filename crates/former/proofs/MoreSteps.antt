@@ -13,7 +13,7 @@ use Rattle.image.specs.declared.Sizes.{Sizes}
 use Rattle.image.specs.Sizes.{bodyCount, sound, Sound}
 use Rattle.image.specs.Layout.{sizesOf}
 use Rattle.image.specs.Checks.{headNumber}
-use Rattle.image.proofs.Ordering.{none, passed}
+use Rattle.image.proofs.Ordering.{passed}
 use Rattle.image.proofs.Sized.{sound-facts}
 use Rattle.interface.specs.Tables.{imageNumber}
 use Rattle.interface.specs.Calls.{coldNumber, solveNumber}
@@ -98,13 +98,12 @@ more-steps sheet state target room h more = record {
   label = rw (sheet-two sheet h more);
 }
 
--- the images that were accepted
-pub more-steps-calls : (image state target start : List ℕ) (room : ℕ) → former.imageNumber image ≡ 0 → 1 < sizesOf image .steps → NowSix image state target start room
-unfolding former.imageNumber former.headNumber imageNumber headNumber coldNumber solveNumber
+-- the images that had the length of their sizes, so those that were accepted
+pub more-steps-calls : (image state target start : List ℕ) (room : ℕ) → former.headNumber image ≡ 0 → 1 < sizesOf image .steps → NowSix image state target start room
+unfolding former.headNumber imageNumber headNumber coldNumber solveNumber
 more-steps-calls image state target start room h more =
     let z = sizesOf image in
-    let a = none (former.headNumber image) _ h .0 in
-    let p₁ = passed (leb 32 (length image)) 6 _ (omega arith) a in
+    let p₁ = passed (leb 32 (length image)) 6 _ (omega arith) h in
     let p₂ = passed (sound z) 3 _ (omega arith) (p₁ .1) in
     let p₃ = passed (eqb (natAt image 28) 0) 3 _ (omega arith) (p₂ .1) in
     let p₄ = passed (eqb (length image) (4 * (8 + former.bodyCount z))) 6 _ (omega arith) (p₃ .1) in

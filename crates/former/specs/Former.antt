@@ -1,6 +1,6 @@
 -- The definitions as they stood before request 3, "Limits that change along the horizon": those that differ, each with the name and the
--- text that it had, and those that are over them. All else is cited, the arithmetic of today with it. A sheet had nu lines of kind 04 and nu
--- of kind 05, row the motor, column 0, and an image nu lows and nu highs. Definitions only.
+-- text that it had, and those that are over them. All else is cited, the arithmetic of today and its cold start with it, and 17 stands in
+-- its place. A sheet had nu lines of kind 04 and nu of kind 05, row the motor, column 0, and an image nu lows and nu highs. Definitions only.
 use Prim.Native.Nat.{ℕ, _+_, _-_, _*_, _%_, _^_}
 use mathlib.Core.Bool.{Bool, cond, _&&_}
 use mathlib.Core.List.{List, [], _∷_, _++_, map}
@@ -135,9 +135,12 @@ bodyNumber z s =
     ∷ check 5 (allTo (boundTest Target z s) (z .nr))
     ∷ [])
 
--- ---- interface: checks 7 to 12
+-- ---- interface: checks 7, 17 and 8 to 12
 abbrev pub orderTest : Sizes → List ℕ → ℕ → Bool
 orderTest z s i = leZ (lowerAt z s i) (upperAt z s i)
+
+abbrev pub stopTest : Sizes → List ℕ → ℕ → Bool
+stopTest z s i = leZ (lowerAt z s i) (pos 0) && leZ (pos 0) (upperAt z s i)
 
 unfoldable pub momentumRange : Sizes → List ℕ → Bool
 momentumRange z s = leZ (pos 0) (momentumAt z s) && leZ (momentumAt z s) (pos (2 ^ z .b - 1))
@@ -159,6 +162,7 @@ tablesNumber z s =
     let n = commandCount z in
     firstFault
     (check 7 (allTo (orderTest z s) n)
+    ∷ check 17 (allTo (stopTest z s) n)
     ∷ check 8 (allTo (symmetryTest z s) n)
     ∷ check 9 (allTo (marginTest z s) n)
     ∷ check 10 (allTo (totalTest z s) n)
@@ -271,7 +275,7 @@ sheetWords s = cond (eqb (sheetNumber s) 0) (headWords (headOf (lineAt s 0)) s) 
 unfoldable pub sheetImage : List ℕ → List ℕ
 sheetImage s = wordsOut (sheetWords s)
 
--- ---- intake: checks 7 to 12 of a sheet, then the buffer's length
+-- ---- intake: the checks of a sheet's tables, then the buffer's length
 abbrev pub ownTables : List ℕ → ℕ
 ownTables image = tablesNumber (sizesOf image) image
 

@@ -21,7 +21,7 @@ use Rattle.image.specs.declared.Sizes.{Sizes}
 use Rattle.image.specs.Sizes.{commandCount}
 use Rattle.image.specs.Layout.{sizesOf, commandAt, problemAt}
 use Rattle.image.specs.Checks.{headNumber, bodyNumber}
-use Rattle.interface.specs.Tables.{orderTest, symmetryTest, marginTest, totalTest, momentumRange, momentumRatio, pointTest, rowTest, tablesNumber, imageNumber}
+use Rattle.interface.specs.Tables.{orderTest, stopTest, symmetryTest, marginTest, totalTest, momentumRange, momentumRatio, pointTest, rowTest, tablesNumber, imageNumber}
 use Rattle.former_rounding.specs.Former as former
 use Rattle.former_rounding.specs.Once.{KeptOrPassed, TablesKept, ImageKept}
 
@@ -66,6 +66,7 @@ unfolding tablesNumber former.tablesNumber
 tables-kept z s =
     let n = commandCount z in
     after (allTo (orderTest z s) n) 7 _ _
+    (after (allTo (stopTest z s) n) 17 _ _
     (after (allTo (symmetryTest z s) n) 8 _ _
     (after (allTo (marginTest z s) n) 9 _ _
     (after (allTo (totalTest z s) n) 10 _ _
@@ -73,7 +74,7 @@ tables-kept z s =
     (after (momentumRatio z s) 11 _ _
     (after (allTo (pointTest z s) n) 12 _ _
     (last (allTo (rowTest z s) n) (allTo (former.rowTest z s) n)
-    (λ e. all-of (rowTest z s) n (λ k l. row-passes z s k (all-at (former.rowTest z s) n k l e))))))))))
+    (λ e. all-of (rowTest z s) n (λ k l. row-passes z s k (all-at (former.rowTest z s) n k l e)))))))))))
 
 pub image-kept : (image : List ℕ) → ImageKept image
 unfolding imageNumber former.imageNumber

@@ -1,6 +1,6 @@
 -- The definitions as they stood before request 4, "Rounding once per sum": those that differ, each with the name and the text that it had, and
--- those that are over them. All else is cited. Each product of a row was rounded before the sum, each term of A and of B was rounded up, and c
--- was the larger of n and nx + nr. Definitions only.
+-- those that are over them. All else is cited, and 17 stands in its place. Each product of a row was rounded before the sum, each term of A and
+-- of B was rounded up, and c was the larger of n and nx + nr. Definitions only.
 use mathlib.Core.Bool.{Bool}
 use mathlib.Core.List.{List, [], _∷_, _++_, map}
 use Prim.Native.Nat.{ℕ, zero, suc, _+_, _*_, min, max}
@@ -20,7 +20,7 @@ use Rattle.image.specs.Order.{check, firstFault, orElse}
 use Rattle.image.specs.Sizes.{commandCount}
 use Rattle.image.specs.Layout.{sizesOf, commandAt, problemAt, problemOf}
 use Rattle.image.specs.Checks.{headNumber, bodyNumber}
-use Rattle.interface.specs.Tables.{orderTest, symmetryTest, marginTest, totalTest, momentumRange, momentumRatio, pointTest}
+use Rattle.interface.specs.Tables.{orderTest, stopTest, symmetryTest, marginTest, totalTest, momentumRange, momentumRatio, pointTest}
 use Rattle.interface.specs.Calls.{inputsOf, startOf, callNumber}
 
 -- ---- gradient: the rounded scheme
@@ -75,6 +75,7 @@ tablesNumber z s =
     let n = commandCount z in
     firstFault
     (check 7 (allTo (orderTest z s) n)
+    ∷ check 17 (allTo (stopTest z s) n)
     ∷ check 8 (allTo (symmetryTest z s) n)
     ∷ check 9 (allTo (marginTest z s) n)
     ∷ check 10 (allTo (totalTest z s) n)

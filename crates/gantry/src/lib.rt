@@ -26,7 +26,7 @@ pub extern "C" fn gantry_page(sheet: &[u8], page: &mut [u8]) -> u32
     design_page::write_page(sheet, page)
 }
 
-// Writes the start nearest zero.
+// Writes a start of all zeros.
 #[no_mangle]
 pub extern "C" fn gantry_cold_start(image: &[u8], start: &mut [u8]) -> u32
     ensures number { λ r. ⌜ r ≡ coldNumber (now (image .entry)) (length (now (start .entry))) ⌝ }
@@ -34,7 +34,7 @@ pub extern "C" fn gantry_cold_start(image: &[u8], start: &mut [u8]) -> u32
 {
     let number = calls::cold_number(image, start.len());
     if number == 0 {
-        solve::cold_start(image, start);
+        solve::cold_start(start);
     }
     number
 }

@@ -20,7 +20,7 @@ use Rattle.intake.specs.Intake.{ImageWords, bufferNumber, designNumber, 
 pub unwritten : (n : ℕ) (before written : List ℕ) → (n ≡ 0 → ⊥) → before ≡ cond (eqb n 0) written before
 unwritten n before written h = rw (ne-eqb n 0 h)
 
--- ---- lines and end, then 7 to 12
+-- ---- lines and end, then the tables
 module _ (s : List ℕ) (n c : ℕ) (ws : List ℤ) (a : Answered (sheetNumber s) (sheetWords s) n c ws) where
   lines-number : (n ≡ 0 → ⊥) → n ≡ designNumber s
   unfolding designNumber

@@ -1,4 +1,4 @@
--- Document 01, "Place of each check": checks 7 to 12 of a sheet, then the buffer's length. Definitions only.
+-- Document 01, "Place of each check": the checks of a sheet's tables, then the buffer's length. Definitions only.
 use Prim.Native.Nat.{ℕ}
 use mathlib.Core.List.{List, [], _∷_}
 use lib.ListN.{length}
@@ -11,11 +11,11 @@ use Rattle.image.specs.Layout.{sizesOf}
 use Rattle.interface.specs.Tables.{tablesNumber}
 use Rattle.sheet.specs.Sheet.{sheetNumber, sheetImage}
 
--- 7 to 12, of an image with the sizes that it has
+-- the checks of the tables, 7, 17 and 8 to 12, of an image with the sizes that it has
 abbrev pub ownTables : List ℕ → ℕ
 ownTables image = tablesNumber (sizesOf image) image
 
--- "tested through its lines and end, then 7 to 12"
+-- "tested through its lines and end, then 7 to 12", with 17 after 7
 unfoldable pub designNumber : List ℕ → ℕ
 designNumber sheet = orElse (sheetNumber sheet) (ownTables (sheetImage sheet))
 

@@ -1,4 +1,4 @@
-// The intake of a design sheet: checks 7 to 12 on the words that were read, and the call that writes the image.
+// The intake of a design sheet: the checks of the tables on the words that were read, and the call that writes the image.
 ghost use mathlib.Core.Path.{_≡_};
 ghost use mathlib.Core.Bool.{cond};
 ghost use Prim.Native.Nat.{_*_};
@@ -17,7 +17,7 @@ pub fn blank_image() -> [u8; 2276]
     [0u8; 2276]
 }
 
-// Checks 7 to 12. They stand once, on an image's bytes, so the words are written to a buffer first.
+// The checks of the tables, 7, 17 and 8 to 12. They stand once, on an image's bytes, so the words are written to a buffer first.
 fn own_tables(buffer: &mut [u8], words: &[i64]) -> u32
     requires { ⌜ ImageWords (now words) × (length (now buffer) ≡ 4 * length (now words)) ⌝ }
     ensures { λ r. ⌜ r ≡ ownTables (wordsOut (now (words .entry))) ⌝ }
@@ -27,7 +27,7 @@ fn own_tables(buffer: &mut [u8], words: &[i64]) -> u32
     tables::tables_number(buffer, z)
 }
 
-// Reads a sheet and tests it: lines and end, then 7 to 12. With 0 the lent array has the image's words in front.
+// Reads a sheet and tests it: lines and end, then the tables. With 0 the lent array has the image's words in front.
 pub fn read_design(words: &mut [i64; 569], sheet: &[u8]) -> Outcome
     requires { ⌜ length (now words) ≡ 569 ⌝ }
     ensures { λ r. ⌜ Answered (designNumber (now (sheet .entry))) (sheetWords (now (sheet .entry))) (r .number) (r .count) (now (words .exit)) ⌝ }

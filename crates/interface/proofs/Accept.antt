@@ -1,6 +1,6 @@
 -- An image with number 0 gives what the theorem of demand 3 and the code of a solve ask. Assumes nothing.
 use mathlib.Core.Path.{_≡_, refl, sym, ap, subst, _∙_}
-use mathlib.Core.Bool.{Bool, true, false, cond}
+use mathlib.Core.Bool.{Bool, true, false, cond, _&&_}
 use mathlib.Core.List.{List}
 use Prim.Native.Nat.{ℕ, _+_, _-_, _*_, _^_, _≤_, _<_}
 use native.Mathlib.Omega.{arith}
@@ -17,24 +17,26 @@ use Rattle.word.specs.Format.{top}
 use Rattle.word.proofs.Words.{getD-words-at, getD-words-front, length-words-at}
 use Rattle.gradient.specs.Vector.{All1}
 use Rattle.gradient.specs.Index.{allTo}
-use Rattle.gradient.specs.Problem.{Command, F}
+use Rattle.gradient.specs.Problem.{Command, F, coldStart}
 use Rattle.gradient.specs.Bounds.{rangeP, rangeY}
 use Rattle.gradient.specs.Sizes.{Sized, SizedCommand}
-use Rattle.gradient.specs.Demand.{InWord, formatted, ordered, headroom}
-use Rattle.gradient.proofs.Index.{tab-length, tab-at, tab-all1, at-all1, map-at}
+use Rattle.gradient.specs.Demand.{InWord, formatted, ordered, headroom, startWithin}
+use Rattle.gradient.proofs.Index.{tab-length, tab-at, tab-all1, at-all1, map-at, coldStart-at}
+use Rattle.gradient.proofs.Lengths.{coldStart-length}
 use Rattle.gradient.proofs.Append.{all1-append}
-use Rattle.gradient.proofs.Tests.{of-true, at-ordered, at-headroom, RangesFit, all-at}
+use Rattle.gradient.proofs.Tests.{of-true, at-ordered, at-headroom, RangesFit, all-at, every2-to}
 use Rattle.image.specs.declared.Sizes.{Sizes}
 use Rattle.image.specs.declared.Input.{Input}
 use Rattle.image.specs.declared.Input.the-variants.{State, Target}
 use Rattle.image.specs.Sizes.{commandCount, inputCount, bodyCount, sound, Sound, Whole}
-use Rattle.image.specs.Layout.{sizesOf, problemAt, problemOf, commandAt, entryAt, entryOf, costAt, gainAt, gainRow, gainsOf, momentumAt, boundAt, boundsFrom, boundsOf}
+use Rattle.image.specs.Layout.{sizesOf, lowerAt, upperAt, problemAt, problemOf, commandAt, entryAt, entryOf, costAt, gainAt, gainRow, gainsOf, momentumAt, boundAt, boundsFrom, boundsOf}
 use Rattle.image.specs.Checks.{headNumber, bodyNumber, wordTest, boundTest}
 use Rattle.image.proofs.Ordering.{passed, both, none}
 use Rattle.image.proofs.Sized.{sound-facts, sound-format}
 use Rattle.image.proofs.Reading.{cost-word, gain-word, lower-word, upper-word, bound-word}
-use Rattle.interface.specs.Tables.{orderTest, symmetryTest, marginTest, totalTest, momentumRange, momentumRatio, pointTest, rowTest, othersAt, marginAt, tablesNumber, imageNumber}
+use Rattle.interface.specs.Tables.{orderTest, stopTest, symmetryTest, marginTest, totalTest, momentumRange, momentumRatio, pointTest, rowTest, othersAt, marginAt, tablesNumber, imageNumber}
 use Rattle.interface.specs.Accepted.{Accepted}
+use Rattle.interface.specs.Stop.{StopsExactly}
 
 -- ---- the tests that have passed
 pub head-whole : (s : List ℕ) → headNumber s ≡ 0 → Whole (sizesOf s) s
@@ -51,6 +53,7 @@ pub record Passed (z : Sizes) (s : List ℕ) : Type 0 where
   pub bounds : allTo (boundTest State z s) (z .nx) ≡ true
   pub target-bounds : allTo (boundTest Target z s) (z .nr) ≡ true
   pub orders : allTo (orderTest z s) (commandCount z) ≡ true
+  pub stops : allTo (stopTest z s) (commandCount z) ≡ true
   pub symmetries : allTo (symmetryTest z s) (commandCount z) ≡ true
   pub margins : allTo (marginTest z s) (commandCount z) ≡ true
   pub totals : allTo (totalTest z s) (commandCount z) ≡ true
@@ -67,25 +70,27 @@ tests-passed z s e f =
     let a₂ = passed (allTo (boundTest State z s) (z .nx)) 5 _ (lit< tt) (a₁ .1) in
     let a₃ = passed (allTo (boundTest Target z s) (z .nr)) 5 _ (lit< tt) (a₂ .1) in
     let p₁ = passed (allTo (orderTest z s) n) 7 _ (lit< tt) f in
-    let p₂ = passed (allTo (symmetryTest z s) n) 8 _ (lit< tt) (p₁ .1) in
-    let p₃ = passed (allTo (marginTest z s) n) 9 _ (lit< tt) (p₂ .1) in
-    let p₄ = passed (allTo (totalTest z s) n) 10 _ (lit< tt) (p₃ .1) in
-    let p₅ = passed (momentumRange z s) 11 _ (lit< tt) (p₄ .1) in
-    let p₆ = passed (momentumRatio z s) 11 _ (lit< tt) (p₅ .1) in
-    let p₇ = passed (allTo (pointTest z s) n) 12 _ (lit< tt) (p₆ .1) in
-    let p₈ = passed (allTo (rowTest z s) n) 12 _ (lit< tt) (p₇ .1) in
+    let p₂ = passed (allTo (stopTest z s) n) 17 _ (lit< tt) (p₁ .1) in
+    let p₃ = passed (allTo (symmetryTest z s) n) 8 _ (lit< tt) (p₂ .1) in
+    let p₄ = passed (allTo (marginTest z s) n) 9 _ (lit< tt) (p₃ .1) in
+    let p₅ = passed (allTo (totalTest z s) n) 10 _ (lit< tt) (p₄ .1) in
+    let p₆ = passed (momentumRange z s) 11 _ (lit< tt) (p₅ .1) in
+    let p₇ = passed (momentumRatio z s) 11 _ (lit< tt) (p₆ .1) in
+    let p₈ = passed (allTo (pointTest z s) n) 12 _ (lit< tt) (p₇ .1) in
+    let p₉ = passed (allTo (rowTest z s) n) 12 _ (lit< tt) (p₈ .1) in
     record {
       words = a₁ .0;
       bounds = a₂ .0;
       target-bounds = a₃ .0;
       orders = p₁ .0;
-      symmetries = p₂ .0;
-      margins = p₃ .0;
-      totals = p₄ .0;
-      range = p₅ .0;
-      ratio = p₆ .0;
-      points = p₇ .0;
-      rows = p₈ .0;
+      stops = p₂ .0;
+      symmetries = p₃ .0;
+      margins = p₄ .0;
+      totals = p₅ .0;
+      range = p₆ .0;
+      ratio = p₇ .0;
+      points = p₈ .0;
+      rows = p₉ .0;
     }
 
 -- ---- the problem's lists by index
@@ -125,6 +130,21 @@ module _ (z : Sizes) (s : List ℕ) where
   pub gains-length : (i : ℕ) → length (commandAt z s i .gains) ≡ z .nx + z .nr
   unfolding commandAt
   gains-length i = omega (arith, length-append (gainsOf State z s i) (gainsOf Target z s i), gains-count State i, gains-count Target i)
+
+  -- 14 of the commands f 0, f 1, ..
+  pub within-to : (xs : List ℤ) (f : ℕ → ℤ) → length xs ≡ commandCount z → ((k : ℕ) → k < commandCount z → getD xs k (pos 0) ≡ f k)
+      → startWithin (problemAt z s) xs ≡ allTo (λ (k : ℕ). leZ (lowerAt z s k) (f k) && leZ (f k) (upperAt z s k)) (commandCount z)
+  unfolding startWithin commandAt
+  within-to xs f n e =
+      every2-to (λ (r : Command) (x : ℤ). leZ (r .lower) x && leZ x (r .upper)) (problemAt z s .commands) xs (commandAt z s 0) (pos 0) (commandCount z)
+      commands-length n (λ (k : ℕ). leZ (lowerAt z s k) (f k) && leZ (f k) (upperAt z s k))
+      (λ k l. rw (command-at (commandAt z s 0) k l, e k l))
+
+  -- 17 passes exactly where a start of all zeros passes 14
+  pub stops-exactly : StopsExactly z s
+  stops-exactly =
+      let p = problemAt z s in
+      sym (within-to (coldStart p) (λ (k : ℕ). pos 0) (coldStart-length p ∙ commands-length) (λ k l. coldStart-at p k))
 
 -- ---- an entry of M is a word: H's diagonal is at least one count
 diagonal : (f t : ℕ) (h : ℤ) → f ≤ t → pos 1 ≤ℤ h → natAbs h ≤ t → natAbs (pos f -ℤ h) ≤ t
@@ -236,6 +256,7 @@ accepted s e =
       sized = problem-sized (sizesOf s) s (w .sizes) p;
       format = of-true (problem-formatted (sizesOf s) s (w .sizes) p);
       order = of-true (problem-ordered (sizesOf s) s (w .sizes) p);
+      stop = of-true (sym (stops-exactly (sizesOf s) s) ∙ p .stops);
       room = of-true (problem-headroom (sizesOf s) s (w .sizes) p);
     }
 

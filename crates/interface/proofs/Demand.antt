@@ -20,7 +20,7 @@ use Rattle.image.specs.Layout.{sizesOf, problemAt, problemOf, boundsOf}
 use Rattle.image.proofs.Ordering.{passed, both, none}
 use Rattle.interface.specs.Tables.{imageNumber}
 use Rattle.interface.specs.Calls.{valuesOf, inputsOf, startOf, valuesWithin, inputPasses, callNumber, solveNumber, coldNumber}
-use Rattle.interface.specs.Accepted.{Accepted, Solvable}
+use Rattle.interface.specs.Accepted.{Solvable}
 use Rattle.interface.specs.Demand.{SolveClaim}
 use Rattle.interface.proofs.Accept.{accepted, bounds-count}
 
@@ -69,13 +69,11 @@ solvable image state target start room e =
       eqb-true _ _ (p₅ .0),
     )
 
--- number 0 of a cold start
-pub cold-accepted : (image : List ℕ) (room : ℕ) → coldNumber image room ≡ 0 → Accepted image × (room ≡ 4 * commandCount (sizesOf image))
+-- number 0 of a cold start: the length of its buffer
+pub cold-room : (image : List ℕ) (room : ℕ) → coldNumber image room ≡ 0 → room ≡ 4 * commandCount (sizesOf image)
 unfolding coldNumber
-cold-accepted image room e =
-    let a = none (imageNumber image) _ e in
-    let p = passed (eqb room (4 * commandCount (sizesOf image))) 15 _ (lit< tt) (a .1) in
-    (accepted image (a .0), eqb-true _ _ (p .0))
+cold-room image room e =
+    eqb-true _ _ (passed (eqb room (4 * commandCount (sizesOf image))) 15 _ (lit< tt) (none (imageNumber image) _ e .1) .0)
 
 module _ (image state target start : List ℕ) (s : Solvable image state target start) where
   pub all-claims : Demand3 (problemOf image) (inputsOf (sizesOf image) state target) (startOf (sizesOf image) start)

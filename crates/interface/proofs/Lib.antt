@@ -3,3 +3,4 @@ pub mod Accept
 pub mod Demand
 pub mod Guaranteed
 pub mod Prefix
+pub mod Stop

@@ -33,7 +33,7 @@ use Rattle.image.specs.Checks.{headNumber, wordTest, boundTest, bodyNumber}
 use Rattle.image.proofs.Ordering.{passed, both, none}
 use Rattle.interface.specs.Calls.{valuesOf, inputsOf, startOf, valuesWithin, callNumber, solveNumber, solveAnswer, answerAfter, commandsAfter, boundsAfter}
 use Rattle.interface.specs.Demand.{withSweeps, Prefix}
-use Rattle.interface.specs.Tables.{orderTest, symmetryTest, marginTest, totalTest, momentumRange, momentumRatio, pointTest, rowTest, othersAt, marginAt, totalAt, leastTo, largestTo, leastMargin, largestTotal, eqZ, tablesNumber, imageNumber}
+use Rattle.interface.specs.Tables.{orderTest, stopTest, symmetryTest, marginTest, totalTest, momentumRange, momentumRatio, pointTest, rowTest, othersAt, marginAt, totalAt, leastTo, largestTo, leastMargin, largestTotal, eqZ, tablesNumber, imageNumber}
 use Rattle.interface.proofs.Accept.{accepted}
 
 least-cong : (f g : ℕ → ℤ) (n : ℕ) → ((i : ℕ) → f i ≡ g i) → leastTo f n ≡ leastTo g n
@@ -160,6 +160,7 @@ module _ (z : Sizes) (s t : List ℕ) (e : drop 32 s ≡ drop 32 t) where
       let n = commandCount z in
       rw (
         all-cong (orderTest z s) (orderTest z t) n (λ i l. rw (lower-same i, upper-same i)),
+        all-cong (stopTest z s) (stopTest z t) n (λ i l. rw (lower-same i, upper-same i)),
         all-cong (symmetryTest z s) (symmetryTest z t) n (λ i l. symmetry-same i),
         all-cong (marginTest z s) (marginTest z t) n (λ i l. ap (leZ (pos 1)) (margin-same i)),
         all-cong (totalTest z s) (totalTest z t) n (λ i l. ap (λ (x : ℤ). leZ x (pos (2 ^ z .b))) (total-same i)),

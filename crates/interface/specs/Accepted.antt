@@ -4,6 +4,7 @@ use mathlib.Core.Path.{_≡_}
 use Prim.Native.Nat.{ℕ, _*_}
 use lib.Dec.{T}
 use lib.ListN.{length}
+use Rattle.gradient.specs.Problem.{coldStart}
 use Rattle.gradient.specs.Sizes.{Sized}
 use Rattle.gradient.specs.Demand.{formatted, ordered, headroom, inputsWithin, startWithin}
 use Rattle.image.specs.Sizes.{Whole, commandCount}
@@ -16,6 +17,7 @@ pub record Accepted (image : List ℕ) : Type 0 where
   pub sized : Sized (problemOf image)
   pub format : T (formatted (problemOf image))
   pub order : T (ordered (problemOf image))
+  pub stop : T (startWithin (problemOf image) (coldStart (problemOf image)))
   pub room : T (headroom (problemOf image))
 
 -- 13, 16 and 14 passed too

@@ -37,7 +37,7 @@ coldCallNumber z room = firstFault (check 15 (eqb room (4 * commandCount z)) ∷
 unfoldable pub coldNumber : List ℕ → ℕ → ℕ
 coldNumber image room = orElse (imageNumber image) (coldCallNumber (sizesOf image) room)
 
--- "the cold start, 4n bytes"
+-- "the cold start, 4n bytes", "all zeros"
 unfoldable pub coldAnswer : List ℕ → List ℕ
 coldAnswer image = wordsOut (coldStart (problemOf image))
 
@@ -63,7 +63,7 @@ callNumber image state target start room =
     ∷ check 15 (eqb room (8 * commandCount z))
     ∷ [])
 
--- "a solve is tested 6, 3, 6, 5, then 7 to 15", with 16 after 13
+-- "a solve is tested 6, 3, 6, 5, then 7 to 15", with 17 after 7 and 16 after 13
 unfoldable pub solveNumber : List ℕ → List ℕ → List ℕ → List ℕ → ℕ → ℕ
 solveNumber image state target start room = orElse (imageNumber image) (callNumber image state target start room)
 

@@ -3,3 +3,4 @@ pub mod Tables
 pub mod Calls
 pub mod Accepted
 pub mod Demand
+pub mod Stop

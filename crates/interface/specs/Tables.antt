@@ -9,7 +9,7 @@ use Rattle.word.specs.Format.{top}
 use Rattle.gradient.specs.Index.{sumN, allTo}
 use Rattle.gradient.specs.Bounds.{rangeP, rangeY, rangeA, rangeB}
 use Rattle.image.specs.declared.Sizes.{Sizes}
-use Rattle.image.specs.Order.{check, firstFault, orElse}
+use Rattle.image.specs.Order.{Check, check, firstFault, orElse}
 use Rattle.image.specs.Sizes.{commandCount}
 use Rattle.image.specs.Layout.{sizesOf, costAt, lowerAt, upperAt, momentumAt, commandAt, problemAt}
 use Rattle.image.specs.Checks.{headNumber, bodyNumber}
@@ -17,6 +17,10 @@ use Rattle.image.specs.Checks.{headNumber, bodyNumber}
 -- ---- 7: "a low above its high"
 abbrev pub orderTest : Sizes → List ℕ → ℕ → Bool
 orderTest z s i = leZ (lowerAt z s i) (upperAt z s i)
+
+-- ---- 17: not "a command whose low is above 0 or whose high is below 0"
+abbrev pub stopTest : Sizes → List ℕ → ℕ → Bool
+stopTest z s i = leZ (lowerAt z s i) (pos 0) && leZ (pos 0) (upperAt z s i)
 
 -- ---- 8: "H not symmetric"
 abbrev pub eqZ : ℤ → ℤ → Bool
@@ -88,11 +92,11 @@ rowTest z s i = leb (rangeA (problemAt z s) (commandAt z s i) + rangeB (problemA
 
 -- ---- in order
 -- the tables' own checks, which a sheet is tested by too
-unfoldable pub tablesNumber : Sizes → List ℕ → ℕ
-tablesNumber z s =
+abbrev pub tableChecks : Sizes → List ℕ → List Check
+tableChecks z s =
     let n = commandCount z in
-    firstFault
-    (check 7 (allTo (orderTest z s) n)
+    check 7 (allTo (orderTest z s) n)
+    ∷ check 17 (allTo (stopTest z s) n)
     ∷ check 8 (allTo (symmetryTest z s) n)
     ∷ check 9 (allTo (marginTest z s) n)
     ∷ check 10 (allTo (totalTest z s) n)
@@ -100,8 +104,11 @@ tablesNumber z s =
     ∷ check 11 (momentumRatio z s)
     ∷ check 12 (allTo (pointTest z s) n)
     ∷ check 12 (allTo (rowTest z s) n)
-    ∷ [])
+    ∷ []
 
--- the number of an image: "6, 3, 6, 5, then 7 to" 12
+unfoldable pub tablesNumber : Sizes → List ℕ → ℕ
+tablesNumber z s = firstFault (tableChecks z s)
+
+-- the number of an image: "6, 3, 6, 5, then 7 to" 12, with 17 "after 7 and before 8"
 unfoldable pub imageNumber : List ℕ → ℕ
 imageNumber s = orElse (headNumber s) (orElse (bodyNumber (sizesOf s) s) (tablesNumber (sizesOf s) s))

@@ -1,19 +1,34 @@
-// The tests of each row: 7 to 10, and the two of 12.
+// The tests of each row: 7, 17, 8 to 10, and the two of 12.
 ghost use mathlib.Core.Path.{_≡_};
+ghost use mathlib.Core.Bool.{_&&_};
 ghost use Prim.Native.Nat.{_<_};
+ghost use lib.Signed.{leZ};
 ghost use Rattle.gradient.specs.Index.{allTo};
-ghost use Rattle.image.specs.Sizes.{commandCount};
+ghost use Rattle.image.specs.Sizes.{Whole, commandCount};
+ghost use Rattle.image.specs.Layout.{lowerAt, upperAt};
 ghost use Rattle.row_tests.specs.Tests.{testAt, TestReady};
 use image::Sizes;
 
-// A test of each row: 7, 8, 9, 10, and the two of 12.
+// A test of each row: 7, 17, 8, 9, 10, and the two of 12.
 pub enum Test {
     Ordered,
+    Stoppable,
     Symmetric,
     Margin,
     Total,
     Point,
     Row,
+}
+
+// Whether x is within the limits of command k: 17 of zero, 14 of a start.
+pub fn is_inside(image: &[u8], z: Sizes, k: usize, x: i64) -> bool
+    requires { ⌜ Whole z (now image) × (k < commandCount z) ⌝ }
+    ensures { λ r. ⌜ r ≡ leZ (lowerAt z (now (image .entry)) k) x && leZ x (upperAt z (now (image .entry)) k) ⌝ }
+{
+    if image::lower_at(image, z, k) <= x {
+        return x <= image::upper_at(image, z, k);
+    }
+    false
 }
 
 // Whether row i passes a test.
@@ -23,6 +38,7 @@ fn row_test(image: &[u8], z: Sizes, t: Test, i: usize) -> bool
 {
     match t {
         Test::Ordered => image::lower_at(image, z, i) <= image::upper_at(image, z, i),
+        Test::Stoppable => is_inside(image, z, i, 0),
         Test::Symmetric => dominance::is_symmetric(image, z, i),
         Test::Margin => 1 <= dominance::margin(image, z, i),
         Test::Total => dominance::total(image, z, i) <= dominance::power(z.b),

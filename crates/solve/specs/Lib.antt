@@ -1,2 +1,2 @@
--- What the contracts of a solve and of a cold start cite.
+-- What the contracts of a solve cite.
 pub mod Reached

@@ -1,22 +1,16 @@
--- The arrays before the first iteration and after k of them, and the commands of a cold start. Assumes nothing.
+-- The arrays before the first iteration and after k of them. Assumes nothing.
 use mathlib.Core.List.{List}
 use Prim.Native.Nat.{ℕ, _*_}
 use lib.ListN.{length, getD}
 use lib.IntN.{ℤ, pos}
-use Rattle.integer.specs.Round.{clamp}
 use Rattle.word.specs.Word.{wordAt}
 use Rattle.gradient.specs.Problem.{Problem}
 use Rattle.gradient.specs.Scheme.{iterate}
 use Rattle.gradient.specs.Bounds.{errorAfter}
-use Rattle.image.specs.declared.Sizes.{Sizes}
-use Rattle.image.specs.Layout.{sizesOf, lowerAt, upperAt, problemOf}
+use Rattle.image.specs.Layout.{sizesOf, problemOf}
 use Rattle.interface.specs.Calls.{inputsOf, startOf}
 use Rattle.array.specs.Arrays.{Filled}
 use Rattle.iteration.specs.declared.State.{State}
-
--- "for each command the value within its limits nearest zero"
-abbrev pub coldAt : Sizes → List ℕ → ℕ → ℤ
-coldAt z image i = clamp (lowerAt z image i) (upperAt z image i) (pos 0)
 
 -- the arrays after k iterations
 pub record Reached (p : Problem) (inputs start : List ℤ) (k : ℕ) (s : State) : Type 0 where

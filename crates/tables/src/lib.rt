@@ -1,17 +1,20 @@
-// The checks of an image's tables, 7 to 12, in order, and the number of an image.
+// The checks of an image's tables, 7, 17 and 8 to 12, in order, and the number of an image.
 ghost use mathlib.Core.Path.{_≡_};
 ghost use Rattle.image.specs.Sizes.{Whole};
 ghost use Rattle.interface.specs.Tables.{tablesNumber, imageNumber};
 use image::Sizes;
 use row_tests::Test;
 
-// Checks 7 to 12, in order.
+// Checks 7, 17 and 8 to 12, in order.
 pub fn tables_number(image: &[u8], z: Sizes) -> u32
     requires { ⌜ Whole z (now image) ⌝ }
     ensures { λ r. ⌜ r ≡ tablesNumber z (now (image .entry)) ⌝ }
 {
     if !row_tests::rows_pass(image, z, Test::Ordered) {
         return 7;
+    }
+    if !row_tests::rows_pass(image, z, Test::Stoppable) {
+        return 17;
     }
     if !row_tests::rows_pass(image, z, Test::Symmetric) {
         return 8;

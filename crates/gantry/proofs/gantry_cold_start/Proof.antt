@@ -1,8 +1,10 @@
 -- `gantry::gantry_cold_start` meets its contract. Assumes nothing.
-use mathlib.Core.Path.{sym, _∙_}
-use lib.ListN.{length}
+use mathlib.Core.Path.{sym, ap, _∙_}
+use Prim.Native.Nat.{ℕ}
+use lib.ListN.{length, replicate}
 use borrow.Author.Tests.{eq-eqb, ne-eqb}
-use Rattle.interface.proofs.Demand.{cold-accepted}
+use Rattle.interface.proofs.Demand.{cold-room}
+use Rattle.interface.proofs.Stop.{all-zeros}
 use borrow.Author.Needs.{needs}
 use Rattle.calls.proofs.cold_number.Reads as cold-number-reads
 use Rattle.solve.proofs.cold_start.Reads as cold-start-reads
@@ -15,18 +17,20 @@ cold-number-requires : tie.Need-cold-number-requires
 cold-number-requires c κs = search needs
 
 cold-start-requires : tie.Need-cold-start-requires
-cold-start-requires c κs =
-    let a = c .before .before .before .before .before in
-    let k = c .before .before .cold-number in
-    cold-accepted (a .args .image .now) (length (a .args .start .now)) (sym (k .ensures) ∙ c .before .if1 .taken)
+cold-start-requires c κs = search needs
 
 same-length : tie.Need-same-length
 same-length c = search needs
 
 returns : tie.Need-returns
 returns c =
-    let k = c .before .before .before .before .before .cold-number in
-    (k .ensures, rw (eq-eqb (k .result) 0 (c .before .before .before .before .if1 .taken)) (c .before .before .cold-start .ensures))
+    let d = c .before .before .before .before in
+    let k = d .before .cold-number in
+    let a = d .before .before .before .before .args in
+    let room = cold-room (a .image .now) (length (a .start .now)) (sym (k .ensures) ∙ d .if1 .taken) in (
+      k .ensures,
+      rw (eq-eqb (k .result) 0 (d .if1 .taken)) (c .before .before .cold-start .ensures ∙ ap (λ (n : ℕ). replicate n 0) room ∙ sym (all-zeros (a .image .now))),
+    )
 
 returns-2 : tie.Need-returns-2
 returns-2 c = (c .before .cold-number .ensures, rw (ne-eqb (c .before .cold-number .result) 0 (c .if1 .left)))

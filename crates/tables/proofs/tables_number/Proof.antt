@@ -1,13 +1,15 @@
--- `tables::tables_number` meets its contract: each way out has the tests that led there. Assumes nothing.
-use mathlib.Core.Path.{_≡_, sym, _∙_}
+-- `tables::tables_number` meets its contract: at each place the checks so far have passed, and those behind them decide. Assumes nothing.
+use mathlib.Core.Path.{_≡_, refl, sym, _∙_}
 use mathlib.Core.Bool.{Bool, true}
 use mathlib.Core.List.{List}
 use Prim.Native.Nat.{ℕ}
+use lib.ListN.{drop}
 use borrow.Author.Tests.{not-true, not-false}
 use Rattle.gradient.specs.Index.{allTo}
 use Rattle.image.specs.declared.Sizes.{Sizes}
+use Rattle.image.specs.Order.{firstFault}
 use Rattle.image.specs.Sizes.{commandCount}
-use Rattle.interface.specs.Tables.{orderTest, symmetryTest, marginTest, totalTest, momentumRange, momentumRatio, pointTest, tablesNumber}
+use Rattle.interface.specs.Tables.{orderTest, stopTest, symmetryTest, marginTest, totalTest, momentumRange, momentumRatio, pointTest, tableChecks, tablesNumber}
 use Rattle.row_tests.specs.Tests.{testAt, TestRoom}
 use borrow.Author.Needs.{needs}
 use Rattle.tables.proofs.tables_number.Statement.{statement}
@@ -35,38 +37,74 @@ at6 c = at5 (c .before .before)
 abbrev at7 : tie.Else7 → tie.Start
 at7 c = at6 (c .before .before)
 
+abbrev at8 : tie.Else8 → tie.Start
+at8 c = at7 (c .before .before)
+
 abbrev Once : (Sizes → List ℕ → Bool) → tie.Start → Type 0
 Once p a = p (a .args .z) (a .args .image .now) ≡ true
 
 abbrev Each : (Sizes → List ℕ → ℕ → Bool) → tie.Start → Type 0
 Each p a = allTo (p (a .args .z) (a .args .image .now)) (commandCount (a .args .z)) ≡ true
 
--- the tests that have passed at a place
+-- the number is what the checks behind the first k give
+abbrev Behind : ℕ → tie.Start → Type 0
+Behind k a = tablesNumber (a .args .z) (a .args .image .now) ≡ firstFault (drop k (tableChecks (a .args .z) (a .args .image .now)))
+
+-- the test that has passed at a place, and what is left
 ordered : (c : tie.Else1) → Each orderTest (at1 c)
 unfolding testAt
 ordered c = sym (c .before .rows-pass .ensures) ∙ not-false _ (c .if1 .left)
 
-symmetric : (c : tie.Else2) → Each symmetryTest (at2 c)
+behind1 : (c : tie.Else1) → Behind 1 (at1 c)
+unfolding tablesNumber
+behind1 c = rw (ordered c) refl
+
+stoppable : (c : tie.Else2) → Each stopTest (at2 c)
 unfolding testAt
-symmetric c = sym (c .before .rows-pass2 .ensures) ∙ not-false _ (c .if2 .left)
+stoppable c = sym (c .before .rows-pass2 .ensures) ∙ not-false _ (c .if2 .left)
 
-margins : (c : tie.Else3) → Each marginTest (at3 c)
+behind2 : (c : tie.Else2) → Behind 2 (at2 c)
+behind2 c = behind1 (c .before .before) ∙ rw (stoppable c) refl
+
+symmetric : (c : tie.Else3) → Each symmetryTest (at3 c)
 unfolding testAt
-margins c = sym (c .before .rows-pass3 .ensures) ∙ not-false _ (c .if3 .left)
+symmetric c = sym (c .before .rows-pass3 .ensures) ∙ not-false _ (c .if3 .left)
 
-totals : (c : tie.Else4) → Each totalTest (at4 c)
+behind3 : (c : tie.Else3) → Behind 3 (at3 c)
+behind3 c = behind2 (c .before .before) ∙ rw (symmetric c) refl
+
+margins : (c : tie.Else4) → Each marginTest (at4 c)
 unfolding testAt
-totals c = sym (c .before .rows-pass4 .ensures) ∙ not-false _ (c .if4 .left)
+margins c = sym (c .before .rows-pass4 .ensures) ∙ not-false _ (c .if4 .left)
 
-momentum : (c : tie.Else5) → Once momentumRange (at5 c)
-momentum c = sym (c .before .is-momentum .ensures) ∙ not-false _ (c .if5 .left)
+behind4 : (c : tie.Else4) → Behind 4 (at4 c)
+behind4 c = behind3 (c .before .before) ∙ rw (margins c) refl
 
-ratio : (c : tie.Else6) → Once momentumRatio (at6 c)
-ratio c = sym (c .before .momentum-passes .ensures) ∙ not-false _ (c .if6 .left)
-
-points : (c : tie.Else7) → Each pointTest (at7 c)
+totals : (c : tie.Else5) → Each totalTest (at5 c)
 unfolding testAt
-points c = sym (c .before .rows-pass5 .ensures) ∙ not-false _ (c .if7 .left)
+totals c = sym (c .before .rows-pass5 .ensures) ∙ not-false _ (c .if5 .left)
+
+behind5 : (c : tie.Else5) → Behind 5 (at5 c)
+behind5 c = behind4 (c .before .before) ∙ rw (totals c) refl
+
+momentum : (c : tie.Else6) → Once momentumRange (at6 c)
+momentum c = sym (c .before .is-momentum .ensures) ∙ not-false _ (c .if6 .left)
+
+behind6 : (c : tie.Else6) → Behind 6 (at6 c)
+behind6 c = behind5 (c .before .before) ∙ rw (momentum c) refl
+
+ratio : (c : tie.Else7) → Once momentumRatio (at7 c)
+ratio c = sym (c .before .momentum-passes .ensures) ∙ not-false _ (c .if7 .left)
+
+behind7 : (c : tie.Else7) → Behind 7 (at7 c)
+behind7 c = behind6 (c .before .before) ∙ rw (ratio c) refl
+
+points : (c : tie.Else8) → Each pointTest (at8 c)
+unfolding testAt
+points c = sym (c .before .rows-pass6 .ensures) ∙ not-false _ (c .if8 .left)
+
+behind8 : (c : tie.Else8) → Behind 8 (at8 c)
+behind8 c = behind7 (c .before .before) ∙ rw (points c) refl
 
 rows-pass-requires : tie.Need-rows-pass-requires
 unfolding TestRoom
@@ -81,58 +119,64 @@ unfolding TestRoom
 rows-pass-requires-2 c κs = record { whole = at1 c .pre; room = tt }
 
 returns-2 : tie.Need-returns-2
-unfolding tablesNumber testAt
-returns-2 c = rw (ordered (c .before .before), sym (c .before .rows-pass2 .ensures) ∙ not-true _ (c .if2 .taken))
+unfolding testAt
+returns-2 c = sym (behind1 (c .before .before) ∙ rw (sym (c .before .rows-pass2 .ensures) ∙ not-true _ (c .if2 .taken)) refl)
 
 rows-pass-requires-3 : tie.Need-rows-pass-requires-3
 unfolding TestRoom
 rows-pass-requires-3 c κs = record { whole = at2 c .pre; room = tt }
 
 returns-3 : tie.Need-returns-3
-unfolding tablesNumber testAt
-returns-3 c = rw (ordered (c .before .before .before .before), symmetric (c .before .before), sym (c .before .rows-pass3 .ensures) ∙ not-true _ (c .if3 .taken))
+unfolding testAt
+returns-3 c = sym (behind2 (c .before .before) ∙ rw (sym (c .before .rows-pass3 .ensures) ∙ not-true _ (c .if3 .taken)) refl)
 
 rows-pass-requires-4 : tie.Need-rows-pass-requires-4
 unfolding TestRoom
 rows-pass-requires-4 c κs = record { whole = at3 c .pre; room = tt }
 
 returns-4 : tie.Need-returns-4
-unfolding tablesNumber testAt
-returns-4 c = rw (ordered (c .before .before .before .before .before .before), symmetric (c .before .before .before .before), margins (c .before .before), sym (c .before .rows-pass4 .ensures) ∙ not-true _ (c .if4 .taken))
+unfolding testAt
+returns-4 c = sym (behind3 (c .before .before) ∙ rw (sym (c .before .rows-pass4 .ensures) ∙ not-true _ (c .if4 .taken)) refl)
+
+rows-pass-requires-5 : tie.Need-rows-pass-requires-5
+unfolding TestRoom
+rows-pass-requires-5 c κs = record { whole = at4 c .pre; room = tt }
+
+returns-5 : tie.Need-returns-5
+unfolding testAt
+returns-5 c = sym (behind4 (c .before .before) ∙ rw (sym (c .before .rows-pass5 .ensures) ∙ not-true _ (c .if5 .taken)) refl)
 
 is-momentum-requires : tie.Need-is-momentum-requires
 is-momentum-requires c κs = search needs
 
-returns-5 : tie.Need-returns-5
-unfolding tablesNumber
-returns-5 c = rw (ordered (c .before .before .before .before .before .before .before .before), symmetric (c .before .before .before .before .before .before), margins (c .before .before .before .before), totals (c .before .before), sym (c .before .is-momentum .ensures) ∙ not-true _ (c .if5 .taken))
+returns-6 : tie.Need-returns-6
+returns-6 c = sym (behind5 (c .before .before) ∙ rw (sym (c .before .is-momentum .ensures) ∙ not-true _ (c .if6 .taken)) refl)
 
 momentum-passes-requires : tie.Need-momentum-passes-requires
-momentum-passes-requires c κs = record { whole = at5 c .pre; range = momentum c; margins = margins (c .before .before .before .before); totals = totals (c .before .before) }
-
-returns-6 : tie.Need-returns-6
-unfolding tablesNumber
-returns-6 c = rw (ordered (c .before .before .before .before .before .before .before .before .before .before), symmetric (c .before .before .before .before .before .before .before .before), margins (c .before .before .before .before .before .before), totals (c .before .before .before .before), momentum (c .before .before), sym (c .before .momentum-passes .ensures) ∙ not-true _ (c .if6 .taken))
-
-rows-pass-requires-5 : tie.Need-rows-pass-requires-5
-unfolding TestRoom
-rows-pass-requires-5 c κs = record { whole = at6 c .pre; room = tt }
+momentum-passes-requires c κs = record { whole = at6 c .pre; range = momentum c; margins = margins (c .before .before .before .before); totals = totals (c .before .before) }
 
 returns-7 : tie.Need-returns-7
-unfolding tablesNumber testAt
-returns-7 c = rw (ordered (c .before .before .before .before .before .before .before .before .before .before .before .before), symmetric (c .before .before .before .before .before .before .before .before .before .before), margins (c .before .before .before .before .before .before .before .before), totals (c .before .before .before .before .before .before), momentum (c .before .before .before .before), ratio (c .before .before), sym (c .before .rows-pass5 .ensures) ∙ not-true _ (c .if7 .taken))
+returns-7 c = sym (behind6 (c .before .before) ∙ rw (sym (c .before .momentum-passes .ensures) ∙ not-true _ (c .if7 .taken)) refl)
 
 rows-pass-requires-6 : tie.Need-rows-pass-requires-6
 unfolding TestRoom
-rows-pass-requires-6 c κs = record { whole = at7 c .pre; room = points c }
+rows-pass-requires-6 c κs = record { whole = at7 c .pre; room = tt }
 
 returns-8 : tie.Need-returns-8
-unfolding tablesNumber testAt
-returns-8 c = rw (ordered (c .before .before .before .before .before .before .before .before .before .before .before .before .before .before), symmetric (c .before .before .before .before .before .before .before .before .before .before .before .before), margins (c .before .before .before .before .before .before .before .before .before .before), totals (c .before .before .before .before .before .before .before .before), momentum (c .before .before .before .before .before .before), ratio (c .before .before .before .before), points (c .before .before), sym (c .before .rows-pass6 .ensures) ∙ c .if8 .taken)
+unfolding testAt
+returns-8 c = sym (behind7 (c .before .before) ∙ rw (sym (c .before .rows-pass6 .ensures) ∙ not-true _ (c .if8 .taken)) refl)
+
+rows-pass-requires-7 : tie.Need-rows-pass-requires-7
+unfolding TestRoom
+rows-pass-requires-7 c κs = record { whole = at8 c .pre; room = points c }
 
 returns-9 : tie.Need-returns-9
-unfolding tablesNumber testAt
-returns-9 c = rw (ordered (c .before .before .before .before .before .before .before .before .before .before .before .before .before .before), symmetric (c .before .before .before .before .before .before .before .before .before .before .before .before), margins (c .before .before .before .before .before .before .before .before .before .before), totals (c .before .before .before .before .before .before .before .before), momentum (c .before .before .before .before .before .before), ratio (c .before .before .before .before), points (c .before .before), sym (c .before .rows-pass6 .ensures) ∙ c .if8 .left)
+unfolding testAt
+returns-9 c = sym (behind8 (c .before .before) ∙ rw (sym (c .before .rows-pass7 .ensures) ∙ c .if9 .taken) refl)
+
+returns-10 : tie.Need-returns-10
+unfolding testAt
+returns-10 c = sym (behind8 (c .before .before) ∙ rw (sym (c .before .rows-pass7 .ensures) ∙ c .if9 .left) refl)
 
 pub tables-number-spec : {M : Type 1} → statement M
 tables-number-spec =
@@ -146,12 +190,14 @@ tables-number-spec =
     returns-3
     rows-pass-requires-4
     returns-4
-    is-momentum-requires
-    returns-5
-    momentum-passes-requires
-    returns-6
     rows-pass-requires-5
+    returns-5
+    is-momentum-requires
+    returns-6
+    momentum-passes-requires
     returns-7
     rows-pass-requires-6
     returns-8
-    returns-9)
+    rows-pass-requires-7
+    returns-9
+    returns-10)

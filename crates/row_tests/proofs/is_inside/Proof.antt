@@ -1,4 +1,4 @@
--- `calls::is_inside` meets its contract. Assumes nothing.
+-- `row_tests::is_inside` meets its contract. Assumes nothing.
 use mathlib.Core.Path.{_≡_, ap}
 use mathlib.Core.Bool.{Bool, true, false}
 use lib.Signed.{leZ}
@@ -8,8 +8,8 @@ use mir.Facts.{toZ-ofZ}
 use Rattle.integer.proofs.Machine.{back}
 use Rattle.image.specs.Layout.{lowerAt}
 use borrow.Author.Needs.{needs}
-use Rattle.calls.proofs.is_inside.Statement.{statement}
-use Rattle.calls.proofs.is_inside.Tie as tie
+use Rattle.row_tests.proofs.is_inside.Statement.{statement}
+use Rattle.row_tests.proofs.is_inside.Tie as tie
 
 above : (c : tie.After-lower-at) (t : Bool) → leZ (toZ w64 (ofZ w64 (c .lower-at .result))) (toZ w64 (ofZ w64 (c .before .before .args .x))) ≡ t
     → leZ (lowerAt (c .before .before .args .z) (c .before .before .args .image .now) (c .before .before .args .k)) (c .before .before .args .x) ≡ t

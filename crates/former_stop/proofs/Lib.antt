@@ -1,0 +1,3 @@
+-- The laws that docs cite.
+pub mod Numbers
+pub mod Start
