@@ -45,6 +45,8 @@ static int accepted(const struct problem *p, const struct tables *t)
     int64_t f = 1ll << p->b, least = INT64_MAX, largest = 0, top = INT32_MAX;
     for (int i = 0; i < n; i++) {
         int64_t others = 0, diagonal = word(p, 8 + i * n + i);
+        if (t->low[i] > 0 || t->high[i] < 0)
+            return 0;
         for (int j = 0; j < n; j++) {
             if (word(p, 8 + i * n + j) != word(p, 8 + j * n + i))
                 return 0;

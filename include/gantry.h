@@ -61,11 +61,12 @@ enum gantry_number {
     GANTRY_BAD_STATE = 13,     /* not nx words, or a value beyond its limit */
     GANTRY_BAD_START = 14,     /* not n words, or a command outside its limits */
     GANTRY_BAD_BUFFER = 15,    /* the buffer to be written has another length than the answer */
-    GANTRY_BAD_TARGET = 16     /* not nr words, or a value beyond its limit; tested directly after 13 */
+    GANTRY_BAD_TARGET = 16,    /* not nr words, or a value beyond its limit; tested directly after 13 */
+    GANTRY_NO_STOP = 17        /* a command's low limit is above 0 or its high limit below 0; tested directly after 7 */
 };
 
 /* Reads a design sheet and writes its image. image_len must be the image's exact length (15), which is known from the
- * sheet's first line: GANTRY_IMAGE_BYTES. Numbers: 0, 1 to 5, 7 to 12, 15.
+ * sheet's first line: GANTRY_IMAGE_BYTES. Numbers: 0, 1 to 5, 7 to 12, 15, 17.
  * An image written here is accepted by the calls below. A sheet with one low and one high a motor, as it was before limits
  * went by the step, is 2 where N is above 1, and its stored image is 6 below; with N 1 both are as they were. */
 uint32_t gantry_intake(const uint8_t *sheet, size_t sheet_len, uint8_t *image, size_t image_len);
@@ -77,13 +78,13 @@ uint32_t gantry_intake(const uint8_t *sheet, size_t sheet_len, uint8_t *image, s
  * The kept double is exactly that of the image's word; K stands where its value is the given one, M where it moved. */
 uint32_t gantry_page(const uint8_t *sheet, size_t sheet_len, uint8_t *page, size_t page_len);
 
-/* Writes, for each command, the value within its limits nearest zero: 4n bytes. Numbers: 0, 3, 5 to 12, 15.
- * What it writes is a start that gantry_solve accepts. */
+/* Writes a start of all zeros, 4n bytes. Numbers: 0, 3, 5 to 12, 15, 17. Zero is within the limits of every command of an
+ * accepted image, so what it writes is a start that gantry_solve accepts, and commands that stop the drive. */
 uint32_t gantry_cold_start(const uint8_t *image, size_t image_len, uint8_t *start, size_t start_len);
 
 /* Runs the image's sweeps from a start and writes 8n bytes: n commands as signed big-endian 32-bit words, then n error
  * bounds as unsigned ones, both in counts of 2^-b. State, target and start are signed big-endian 32-bit words; with nr 0
- * the target is empty. Numbers: 0, 3, 5 to 16, tested 6, 3, 6, 5, 7 to 13, 16, 14, 15.
+ * the target is empty. Numbers: 0, 3, 5 to 17, tested 6, 3, 6, 5, 7, 17, 8 to 13, 16, 14, 15.
  * With 0, each command lies within the limits of its own step, and differs from the command of the exact scheme, which
  * rounds nothing, by at most its bound. A row's products are added in 64 bits, which they do not leave, and divided once,
  * so a row loses at most one count. A command is again a valid start. */
