@@ -1,6 +1,7 @@
 //! Document 01's cases at the edges as one table, the starred ones among them, and a few of our own behind them: edges
-//! that it implies, and those of requests 1 to 5. The figures of ours are worked out by hand from the papers.
+//! that it implies, and those of requests 1 to 6. The figures of ours are worked out by hand from the papers.
 
+mod stop;
 mod sums;
 
 use crate::double::of_count;
@@ -63,7 +64,7 @@ pub struct Case {
     image: Option<Vec<u8>>,
     state: Vec<u8>,
     target: Vec<u8>,
-    /// The cold start where absent.
+    /// The cold start, all zeros, where absent.
     start: Option<Vec<u8>>,
     /// The bytes that the answer's buffer has too many.
     spare: usize,
@@ -155,6 +156,24 @@ pub fn two_motors() -> Draft {
 }
 
 pub fn table() -> Vec<Case> {
+    let mut table = of_document_01();
+    table.extend(our_own());
+    table.extend(followed_targets());
+    table.extend(refused_targets());
+    table.extend(target_lines());
+    table.extend(held_by_steps());
+    table.extend(refused_steps());
+    table.extend(headroom_of_steps());
+    table.extend(step_lines());
+    table.extend(sums::table());
+    table.extend(stop::table());
+    table.extend(pages_of_s());
+    table.extend(other_pages());
+    table.extend(no_pages());
+    table
+}
+
+fn of_document_01() -> Vec<Case> {
     let s = sample;
     let mut table = Vec::new();
     let rows: [&[i64]; 5] = [&[-10, 1], &[-15, 2], &[-18, 3], &[-19, 3], &[-20, 3]];
@@ -172,7 +191,9 @@ pub fn table() -> Vec<Case> {
         case("* H (9,8),(8,9)", &two_steps(9, 8), &[10], Refused(10)),
         case("* H (8,7),(7,8), β 9", &two_steps(8, 7).with(MOMENTUM, &[9]), &[10], Refused(11)),
         case("* H (8,7),(7,8), β 10", &two_steps(8, 7).with(MOMENTUM, &[10]), &[10], Accepted),
-        with_doubles("* low limit 0.03125", &s(), &[(LOW, half)], Words(LOW, vec![1])),
+        // The 1 that it is makes S 17 by request 6; that it is no more is seen beside a high of 1.
+        with_doubles("* low limit 0.03125", &s(), &[(LOW, half)], Refused(17)),
+        with_doubles("low limit 0.03125, high 0.0625", &s(), &[(LOW, half), (HIGH, 2.0 * half)], Refused(17)),
         with_doubles("* high limit 0.03125", &s(), &[(HIGH, half)], Words(HIGH, vec![0])),
         with_doubles("both limits 0.03125", &s(), &[(LOW, half), (HIGH, half)], Refused(7)),
         with_doubles("* -0.03125 in Φ", &s(), &[(GAIN, -half)], Words(GAIN, vec![-1])),
@@ -182,18 +203,6 @@ pub fn table() -> Vec<Case> {
         case("sweeps 401", &s().iterations(401), &[10], Refused(3)),
         case("sweeps 400", &s().iterations(400), &[10], Answer(vec![-20, 3])),
     ]);
-    table.extend(our_own());
-    table.extend(followed_targets());
-    table.extend(refused_targets());
-    table.extend(target_lines());
-    table.extend(held_by_steps());
-    table.extend(refused_steps());
-    table.extend(headroom_of_steps());
-    table.extend(step_lines());
-    table.extend(sums::table());
-    table.extend(pages_of_s());
-    table.extend(other_pages());
-    table.extend(no_pages());
     table
 }
 
@@ -210,7 +219,8 @@ fn our_own() -> Vec<Case> {
     let wide = wide.with(COST, &[1]).with(MOMENTUM, &[4]).with(LOW, &[-1 << 30]).with(HIGH, &[1 << 30]);
     table.extend([
         case("a bound of 2^31", &wide, &[0], Answer(vec![0, 1 << 31])),
-        case("P alone above top", &stiff, &[10], Refused(12)),
+        // 12 until request 6. With zero within the limits Y is not below P.
+        case("P alone above top", &stiff, &[10], Refused(17)),
         case("11 met with equality", &even.clone().with(MOMENTUM, &[8]), &[10], Accepted),
         case("11 missed by one count", &even.with(MOMENTUM, &[7]), &[10], Refused(11)),
     ]);
@@ -355,6 +365,11 @@ pub fn motors_and_steps() -> Draft {
     with_steps(2, &FOUR)
 }
 
+/// Three steps, with zero at the low limit, at the high one and at both.
+pub fn one_sided() -> Draft {
+    with_steps(1, &[(0, 20), (-20, 0), (0, 0)])
+}
+
 /// H (8,4),(4,8) and β 8: the steps have a part in each other.
 pub fn coupled(limits: [(i64, i64); 2]) -> Draft {
     with_steps(1, &limits).with(COST, &[8, 4, 4, 8]).with(MOMENTUM, &[8])
@@ -381,14 +396,14 @@ fn held_by_steps() -> Vec<Case> {
     let rows: [&[i64]; 3] = [&[-1, -8, -10, 1, 1, 1], &[-1, -8, -15, 2, 2, 2], &[-1, -8, -18, 2, 3, 3]];
     let widening = with_steps(1, &[(-1, 1), (-8, 8), (-20, 20)]);
     table.extend(runs("three steps, widening", &widening, &[10], &rows));
-    // A point has w 0, and is its own cold start.
-    let rows: [&[i64]; 3] = [&[-10, 7, -10, 1, 0, 1], &[-15, 7, -15, 2, 0, 2], &[-18, 7, -18, 3, 0, 3]];
-    let point = with_steps(1, &[(-20, 20), (7, 7), (-20, 20)]);
+    // A point has w 0.
+    let rows: [&[i64]; 3] = [&[-10, 0, -10, 1, 0, 1], &[-15, 0, -15, 2, 0, 2], &[-18, 0, -18, 3, 0, 3]];
+    let point = with_steps(1, &[(-20, 20), (0, 0), (-20, 20)]);
     table.extend(runs("a point between two steps", &point, &[10], &rows));
     table.extend(motors_by_steps());
     table.extend(coupled_steps());
     let (eased, held) = (with_steps(1, &[(-20, 20), (-5, 5)]), with_steps(1, &[(-5, 5), (-20, 20)]));
-    let apart = [(-20, -10), (10, 20)];
+    let apart = [(-20, 0), (0, 20)];
     table.extend([
         // Half of −20 is −10, −10 − 10.
         case("a start at its limits", &eased.iterations(1), &[10], Answer(vec![-20, -5, 1, 1])).start(&[-20, -5]),
@@ -430,14 +445,21 @@ fn coupled_steps() -> Vec<Case> {
     // e: 12 × 3 / 16 = 2.25 is 3, 3 + 1; 12 × 8 / 16 + 1; 12 × 14 / 16 = 10.5 is 11, 11 + 1, and at step 1 w = 7.
     let rows: [&[i64]; 4] = [&[-10, -2, 1, 1], &[-17, -2, 4, 4], &[-20, -2, 7, 7], &[-20, -2, 12, 7]];
     let mut table = runs("coupled steps", &coupled([(-20, 20), (-2, 5)]), &[10], &rows);
-    // h = 0, from the cold start (0, 8): −32 / 16; 64 / 16, held, as all that follow at step 1.
-    // y = (−3, 12 − 4): (−24 − 32) / 16 = −3.5 is −4. y = (−6 + 1, 8): (−40 − 32) / 16 = −4.5 is −5.
-    // y = (−8 + 2, 8), −8 for −7.5: (−48 − 32) / 16. w is 4 at step 1. q: 3, 3; 8, 8; 14 and 4 + 4 + 1.
-    // e: 4; 7, and at step 1 w; (112 + 36) / 16 = 9.25 is 10, 10 + 1, and w.
-    let rows: [&[i64]; 4] = [&[-2, 8, 1, 1], &[-4, 8, 4, 4], &[-5, 8, 7, 4], &[-5, 8, 11, 4]];
-    table.extend(runs("zero outside the second step", &coupled([(-20, 20), (8, 12)]), &[0], &rows));
-    let rows: [&[i64]; 4] = [&[8, -2, 1, 1], &[8, -4, 4, 4], &[8, -5, 4, 7], &[8, -5, 4, 11]];
-    table.extend(runs("zero outside the first step", &coupled([(8, 12), (-20, 20)]), &[0], &rows));
+    // h = 10. y = (−15, 0): −7.5 is −8, −8 − 10; 60 / 16 = 3.75, 3 − 10, held, as all that follow at step 1.
+    // y = (−27 + 5, 0): −11 − 10, held. y = (−30 + 9, 0): −10.5 is −11, −11 − 10, held. w is 5 at step 1.
+    // q: 3, 3; 8, 8; 14 and 5 + 5 + 1 (4.5). e: 4; 7, and at step 1 w; (112 + 44) / 16 = 9.75 is 10, 10 + 1, and w.
+    let rows: [&[i64]; 4] = [&[-10, 0, 1, 1], &[-18, 0, 4, 4], &[-20, 0, 7, 5], &[-20, 0, 11, 5]];
+    table.extend(runs("zero at the second step's low", &coupled([(-20, 20), (0, 5)]), &[10], &rows));
+    let rows: [&[i64]; 4] = [&[0, -10, 1, 1], &[0, -18, 4, 4], &[0, -20, 5, 7], &[0, -20, 5, 11]];
+    table.extend(runs("zero at the first step's low", &coupled([(0, 5), (-20, 20)]), &[10], &rows));
+    // h = −10. y = (15, 0): 7 + 10, 7 for 7.5; −3.75 is −4, −4 + 10, held. y = (25 − 5, 0), 25 for 25.5: 10 + 10.
+    // y = (30 − 8, 0), 8 for 8.5: 11 + 10, held. e is the same.
+    let rows: [&[i64]; 4] = [&[10, 0, 1, 1], &[17, 0, 4, 4], &[20, 0, 7, 5], &[20, 0, 11, 5]];
+    table.extend(runs("zero at the second step's high", &coupled([(-20, 20), (-5, 0)]), &[-10], &rows));
+    // z of step 0 is as with a low of zero; w is 0 at step 1, whose q is 1. q of step 0: 3; 3 + 2 + 1; 5 + 4 + 1.
+    // e: 28 / 16 = 1.75 is 2, 2 + 1; 52 / 16 = 3.25 is 4, 4 + 1; 84 / 16 = 5.25 is 6, 6 + 1.
+    let rows: [&[i64]; 4] = [&[-10, 0, 1, 0], &[-18, 0, 3, 0], &[-20, 0, 5, 0], &[-20, 0, 7, 0]];
+    table.extend(runs("zero at both of the second step's", &coupled([(-20, 20), (0, 0)]), &[10], &rows));
     table
 }
 
@@ -482,9 +504,11 @@ fn headroom_of_steps() -> Vec<Case> {
         })
     };
     let cases = [
-        // zb: P = 84 + 42 = 126, and 85 + 43 = 128 (42.5). w is 0.
-        either("a point of 84", (84, 84), Accepted),
-        either("a point of 85", (85, 85), Refused(12)),
+        // zb and w alike: P and Y are 84 + 42 = 126, and 85 + 43 = 128 (42.5).
+        either("limits 0 and 84", (0, 84), Accepted),
+        either("limits 0 and 85", (0, 85), Refused(12)),
+        either("limits -84 and 0", (-84, 0), Accepted),
+        either("limits -85 and 0", (-85, 0), Refused(12)),
         // w: Y = 64 + 8 × 126 / 16 = 127, and 64 + 63.5, rounded up. P is 96.
         either("limits -62 and 64", (-62, 64), Accepted),
         either("limits -63 and 64", (-63, 64), Refused(12)),
@@ -602,7 +626,6 @@ fn pages_of_s() -> Vec<Case> {
     vec![
         s("the page of S", &[]),
         s("the line that request 2 prints", &[PRINTED]),
-        s("half a count as low limit", &["04 0000 3FA0000000000000 3FB0000000000000 M"]),
         s("half a count below zero, down", &["03 0000 BFA0000000000000 BFB0000000000000 M"]),
         // Rounded up to zero, which has no sign.
         s("half a count below zero, up", &["04 0000 BFA0000000000000 0000000000000000 M"]),
@@ -646,13 +669,11 @@ fn pages_of_s() -> Vec<Case> {
             "subnormal doubles on the other side",
             &[
                 "03 0000 8000000000000001 BFB0000000000000 M",
-                "05 0000 8000000000000001 BFB0000000000000 M",
                 "06 0000 8000000000000001 0000000000000000 M",
                 "07 0000 000FFFFFFFFFFFFF 3FB0000000000000 M",
             ],
         ),
         s("the last subnormal as low limit", &["04 0000 800FFFFFFFFFFFFF 0000000000000000 M"]),
-        s("the first subnormal as low limit", &["04 0000 0000000000000001 3FB0000000000000 M"]),
         // The last bit of 8, 16, −20, 20 and 10 counts: down to 16 and 19, up to −20 and 11.
         s(
             "moved by the last bit",
@@ -750,7 +771,8 @@ const PAGE_OF_MOTORS_AND_STEPS: &str = "\
 07 0000 3FE4000000000000 3FE4000000000000 K
 ";
 
-/// Three steps: half a count as low of the second and as high of the third, minus zero as high of the first.
+/// Three steps: minus one and a half counts as low of the second, half a count as high of the third, which is zero at
+/// both limits, minus zero as high of the first.
 const PAGE_OF_THREE_STEPS: &str = "\
 02 0000 3FE0000000000000 3FE0000000000000 K
 02 0001 0000000000000000 0000000000000000 K
@@ -765,7 +787,7 @@ const PAGE_OF_THREE_STEPS: &str = "\
 03 0100 3FF0000000000000 3FF0000000000000 K
 03 0200 3FF0000000000000 3FF0000000000000 K
 04 0000 BFF4000000000000 BFF4000000000000 K
-04 0001 3FA0000000000000 3FB0000000000000 M
+04 0001 BFB8000000000000 BFB0000000000000 M
 04 0002 BFA0000000000000 0000000000000000 M
 05 0000 8000000000000000 0000000000000000 K
 05 0001 3FF4000000000000 3FF4000000000000 K
@@ -846,8 +868,14 @@ pub fn page_table() -> Table {
             table.push((folder(&case.sheet), page.clone()));
         }
     }
+    let refused = refused_sheets().into_iter().chain(stop::sheets());
+    table.extend(refused.map(|(drive, number)| (folder(&drive), format!("refused {number:02}\n"))));
+    table
+}
+
+fn refused_sheets() -> Vec<(Vec<u8>, Number)> {
     let s = |old: &str, new: &str| SAMPLE.replacen(old, new, 1).into_bytes();
-    let refused: [(Vec<u8>, Number); 26] = [
+    vec![
         (vec![], 4),
         (b"\n".to_vec(), 1),
         ([SAMPLE, "\n"].concat().into_bytes(), 4),
@@ -874,9 +902,7 @@ pub fn page_table() -> Table {
         (two_steps(8, 7).with(MOMENTUM, &[9]).sheet(), 11),
         (sample().with(STATE_LIMIT, &[118]).sheet(), 12),
         (sums::sixteen_at_top().sheet(), 12),
-    ];
-    table.extend(refused.map(|(drive, number)| (folder(&drive), format!("refused {number:02}\n"))));
-    table
+    ]
 }
 
 /// Folders and what the label program prints for them.
@@ -889,13 +915,13 @@ pub fn label_table() -> Table {
     };
     let s = |target| folder(SAMPLE, "0000000A\n", target);
     let with_target = String::from_utf8(with_target_text()).unwrap();
-    let without_headroom = String::from_utf8(with_limits(117, 1).sheet()).unwrap();
+    let sheet = |draft: Draft| String::from_utf8(draft.sheet()).unwrap();
+    let without_headroom = sheet(with_limits(117, 1));
     let both = |state, target| folder(&with_target, state, Some(target));
     let of = |target| both("0000000A\n", target);
     let motors_and_steps = String::from_utf8(motors_and_steps_text()).unwrap();
     let former = String::from_utf8(other_limit_lines(&[0, 1, 4, 5], &[])).unwrap();
-    let halves = String::from_utf8(sums::two_halves_of_b().sheet()).unwrap();
-    let beyond_64_bits = String::from_utf8(sums::sixteen_at_top().sheet()).unwrap();
+    let (halves, beyond_64_bits) = (sheet(sums::two_halves_of_b()), sheet(sums::sixteen_at_top()));
     let (answer_of_s, refused) = ("FFFFFFEE 00000003\n", "refused 16\n");
     let table = [
         (s(None), answer_of_s),
@@ -934,7 +960,7 @@ pub fn label_table() -> Table {
         (folder(&halves, "000000090000000100000001\n", None), answer_of_s),
         (folder(&beyond_64_bits, "", None), "refused 12\n"),
     ];
-    table.map(|(folder, text)| (folder, text.to_string())).to_vec()
+    table.map(|(folder, text)| (folder, text.to_string())).into_iter().chain(stop::folders()).collect()
 }
 
 /// Runs one case through every call it reaches, and holds the outcome to the table's own figures.
@@ -952,7 +978,7 @@ pub fn run(harness: &mut Harness, case: &Case) {
         number => page_numbers == (number, number),
     };
     let holds = match &case.expect {
-        Refused(number @ (6 | 13..)) => (intake.number, solve_number) == (0, *number),
+        Refused(number @ (6 | 13..=16)) => (intake.number, solve_number) == (0, *number),
         Refused(number) => (intake.number, solve_number) == (*number, *number),
         Accepted => (intake.number, solve_number) == (0, 0),
         Answer(row) => solve.is_some_and(|solve| solve.written == Some(bytes(row))),
@@ -970,10 +996,21 @@ pub fn run(harness: &mut Harness, case: &Case) {
 
 fn solve(harness: &mut Harness, image: &[u8], case: &Case) -> Outcome {
     let commands = words(image)[..2].iter().product::<i64>() as usize;
-    let cold_start = harness.compare(&Call::on_buffers(Kind::ColdStart, &[image], 4 * commands));
-    let start = case.start.clone().or(cold_start.written).unwrap_or(vec![0; 4 * commands]);
+    cold_start(harness, image, 4 * commands);
+    let start = case.start.clone().unwrap_or(vec![0; 4 * commands]);
     let lent: [&[u8]; 4] = [image, &case.state, &case.target, &start];
     harness.compare(&Call::on_buffers(Kind::Solve, &lent, 8 * commands + case.spare))
+}
+
+/// All zeros, and 15 with a byte too many, or the image's number.
+fn cold_start(harness: &mut Harness, image: &[u8], length: usize) {
+    let [exact, longer] =
+        [length, length + 1].map(|length| harness.compare(&Call::on_buffers(Kind::ColdStart, &[image], length)));
+    let holds = match exact.number {
+        0 => exact.written == Some(vec![0; length]) && longer.number == 15,
+        number => longer.number == number,
+    };
+    harness.check(holds, || "  the table's cold start is another".to_string());
 }
 
 fn page_of(harness: &mut Harness, case: &Case, page_len: usize) -> Outcome {

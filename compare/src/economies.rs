@@ -1,13 +1,15 @@
-//! The false economies and lazy drives of document 01, and those of requests 1 to 5. Each must be found on the table of
+//! The false economies and lazy drives of document 01, and those of requests 1 to 6. Each must be found on the table of
 //! cases: a comparison that cannot fail is worthless.
 
 mod loops;
+mod stop;
 mod sums;
 
 use crate::cases;
 use crate::double::{Rounding, of_count};
 use crate::drive::{Drive, Kind, Reference};
-use crate::former::Former;
+use crate::former::{Former, Without};
+use crate::generate::TABLE_NUMBERS;
 use crate::harness::Harness;
 use crate::image::{HEADER_WORDS, HIGH, LOW, Number, Problem, Sizes, TARGET_GAIN, bytes, open, words};
 use crate::page::{self, GIVEN, KEPT, MARK, PAGE_LINE, PLACE};
@@ -90,6 +92,7 @@ fn economies() -> Vec<Economy> {
     economies.extend(with_other_sheets());
     economies.extend(sums::economies());
     economies.extend(loops::economies());
+    economies.extend(stop::economies());
     economies.extend(on_pages());
     economies.extend(without_pages());
     economies
@@ -172,14 +175,14 @@ fn motors_outermost(command: usize, sizes: &Sizes) -> usize {
 /// Request 3's, on the limits that a command has.
 fn with_other_limits() -> Vec<Economy> {
     const EVERYWHERE: &[Use] =
-        &[Use::Crossing, Use::Magnitude, Use::Spread, Use::Start, Use::ColdStart, Use::Sweep, Use::Bound];
+        &[Use::Crossing, Use::Stop, Use::Magnitude, Use::Spread, Use::Start, Use::Sweep, Use::Bound];
     let places: [(&str, &'static [Use]); 9] = [
         ("in 7", &[Use::Crossing]),
+        ("in 17", &[Use::Stop]),
         ("in zb", &[Use::Magnitude]),
         ("in the w of Y", &[Use::Spread]),
         ("in the headroom", &[Use::Magnitude, Use::Spread]),
         ("in 14", &[Use::Start]),
-        ("in the cold start", &[Use::ColdStart]),
         ("in the sweep", &[Use::Sweep]),
         ("in the w of a bound", &[Use::Bound]),
         ("everywhere", EVERYWHERE),
@@ -196,7 +199,7 @@ fn with_other_limits() -> Vec<Economy> {
 
 /// Request 3's, on the sheets that are taken and on the images written of them.
 fn with_other_sheets() -> Vec<Economy> {
-    const FROM_TABLES: &[Number] = &[0, 7, 8, 9, 10, 11, 12, 15];
+    const FROM_TABLES: &[Number] = &[0, 7, 17, 8, 9, 10, 11, 12, 15];
     let written = |name: &str, kinds: &'static [u8], other: Other| {
         lazy_intake(name, FROM_TABLES, move |sheet, out| intake_of_others(sheet, kinds, other, out))
     };
@@ -206,9 +209,9 @@ fn with_other_sheets() -> Vec<Economy> {
         written("writes the last step's limits for every step", &[LOW, HIGH], last_step),
         written("keeps a low for each motor until the highs come", &[LOW], last_step),
         written("keeps a high for each motor", &[HIGH], last_step),
-        lazy_intake("takes the former layout too", &[2], |sheet, out| match Former::read(sheet) {
-            Ok((former, _)) => write(&bytes(&former.words), out),
-            Err(_) => 2,
+        lazy_intake("takes the former layout too", &[2], |sheet, out| {
+            let former = Former::read(sheet, Without::Request3).and_then(Former::accepted);
+            former.map_or(2, |former| write(&bytes(&former.words), out))
         }),
         lazy_intake("takes the lines of limits in any order", &[2], |sheet, out| {
             let key = |line: &Vec<u8>| [0..2, 4..6, 2..4].map(|part| line.get(part).map(<[u8]>::to_vec));
@@ -302,12 +305,12 @@ fn without_pages() -> Vec<Economy> {
             write(&[first_line(sheet), page_of(sheet)].concat(), out)
         }),
         no_page("tests the page's length before 12", &[12], length_before),
-        no_page("tests the page's length before the tables", &[7, 8, 9, 10, 11, 12], length_before),
+        no_page("tests the page's length before the tables", &TABLE_NUMBERS, length_before),
         no_page("tests the page's length by the sheet's", &[1, 2, 3, 4, 5], |sheet, number, out| {
             let lines = (sheet.len() / LINE).saturating_sub(1);
             if out.len() == PAGE_LINE * lines { number } else { 15 }
         }),
-        no_page("writes the page of a sheet that its tables refuse", &[7, 8, 9, 10, 11, 12], write_anyway),
+        no_page("writes the page of a sheet that its tables refuse", &TABLE_NUMBERS, write_anyway),
         no_page("writes what fits of a page", &[15], write_anyway),
         no_page("takes a longer buffer for the page", &[15], |sheet, _, out| {
             if out.len() < page_of(sheet).len() { 15 } else { write_anyway(sheet, 0, out) }

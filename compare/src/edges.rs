@@ -1,9 +1,10 @@
 //! The edges of check 12 by request 4: images whose B comes to any undivided sum, and a look at the edge where an image
-//! lies.
+//! lies. And such a look for check 17.
 
 use crate::draft::Draft;
-use crate::image::{GAIN, Problem, STATE_LIMIT, Sizes, TARGET_GAIN, TARGET_LIMIT};
+use crate::image::{GAIN, Number, Problem, STATE_LIMIT, Sizes, TARGET_GAIN, TARGET_LIMIT, excludes_zero};
 use crate::random::Random;
+use crate::rules::Use;
 
 /// Puts a row at the last sum of B that passes, or a little below it. False where the inputs can't come to it.
 pub fn reach(random: &mut Random, draft: &mut Draft) -> bool {
@@ -99,8 +100,8 @@ fn put_input(draft: &mut Draft, row: usize, column: usize, gain: i64, limit: i64
     draft.section(limits)[column] = limit;
 }
 
-/// The edges that a run has to meet.
-pub const EDGES: [&str; 9] = [
+/// The edges of check 12 that a run has to meet.
+const SUM_EDGES: [&str; 9] = [
     "accepted, A + B is top",
     "accepted, A is 0 and B undivided top × 2^b",
     "12, A + B is top + 1",
@@ -112,8 +113,59 @@ pub const EDGES: [&str; 9] = [
     "12, B with targets would pass in unsigned 64 bits",
 ];
 
-/// The edges where an image lies that passes the checks up to 11.
-pub fn of_problem(problem: &Problem) -> Vec<&'static str> {
+/// Those of check 17.
+const ZERO_EDGES: [&str; 8] = [
+    "accepted, zero at a low limit",
+    "accepted, zero at a high limit",
+    "accepted, zero at both limits",
+    "accepted, zero at a limit of every command",
+    "17, a single low of 1",
+    "17, a single high of -1",
+    "17, the first command of several alone",
+    "17, the last command of several alone",
+];
+
+pub fn all() -> impl Iterator<Item = &'static str> {
+    SUM_EDGES.into_iter().chain(ZERO_EDGES)
+}
+
+/// The edges where the image of a solve with this number lies.
+pub fn of_problem(problem: &Problem, number: Number) -> Vec<&'static str> {
+    match number {
+        0 => [of_sums(problem), of_limits(problem)].concat(),
+        12 => of_sums(problem),
+        17 => of_limits(problem),
+        _ => Vec::new(),
+    }
+}
+
+fn met<const N: usize>(edges: [&'static str; N], holds: [bool; N]) -> Vec<&'static str> {
+    edges.into_iter().zip(holds).filter(|(_, holds)| *holds).map(|(edge, _)| edge).collect()
+}
+
+/// For an image that is accepted or 17.
+fn of_limits(problem: &Problem) -> Vec<&'static str> {
+    let limits = problem.command_ranges(Use::Stop);
+    let last = limits.len() - 1;
+    let without_zero: Vec<usize> = (0..=last).filter(|&k| excludes_zero(limits[k])).collect();
+    let accepted = without_zero.is_empty();
+    let some = |at: fn(i64, i64) -> bool| limits.iter().any(|&(low, high)| at(low, high));
+    let single = |at: &dyn Fn(usize) -> bool| without_zero.len() == 1 && at(without_zero[0]);
+    let holds = [
+        accepted && some(|low, high| low == 0 && high > 0),
+        accepted && some(|low, high| low < 0 && high == 0),
+        accepted && some(|low, high| low == 0 && high == 0),
+        accepted && !some(|low, high| low < 0 && high > 0),
+        single(&|k| limits[k].0 == 1),
+        single(&|k| limits[k].1 == -1),
+        single(&|k| k == 0 && last > 0),
+        single(&|k| k == last && last > 0),
+    ];
+    met(ZERO_EDGES, holds)
+}
+
+/// For an image that passes the checks up to 11.
+fn of_sums(problem: &Problem) -> Vec<&'static str> {
     let Some(points) = problem.point_bounds() else {
         return Vec::new();
     };
@@ -136,5 +188,5 @@ pub fn of_problem(problem: &Problem) -> Vec<&'static str> {
         !accepted && unsigned,
         !accepted && unsigned && with_target,
     ];
-    EDGES.into_iter().zip(holds).filter(|(_, holds)| *holds).map(|(edge, _)| edge).collect()
+    met(SUM_EDGES, holds)
 }

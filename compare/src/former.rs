@@ -1,7 +1,7 @@
-//! The drive without one of the requests 3 and 4, once more and on its own: all the rest of document 01 and requests 1
-//! to 5 as plain formulas on raw words, conversions in floating point.
+//! The drive without one of the requests 3, 4 and 6, once more and on its own: all the rest of document 01 and requests 1
+//! to 6 as plain formulas on raw words, conversions in floating point.
 
-use crate::image::Number;
+use crate::image::{Number, words};
 
 #[derive(Clone, Copy, PartialEq, Eq)]
 pub enum Without {
@@ -9,12 +9,17 @@ pub enum Without {
     Request3,
     /// Each product is rounded by itself, and so is each term of A and B; c counts them.
     Request4,
+    /// A command need not be able to be zero, and starts as near to it as its limits let it.
+    Request6,
 }
 
 /// An image's words, found by the offsets of that drive.
 pub struct Former {
     pub words: Vec<i64>,
+    /// The page of the sheet that it was read from.
+    pub page: String,
     without: Without,
+    motors: usize,
     n: usize,
     /// The number of lows, and of highs.
     limits: usize,
@@ -33,15 +38,26 @@ impl Former {
         let (one, top) = (1 << words[3], (1 << (words[4] - 1)) - 1);
         let n = motors * steps;
         let limits = if without == Without::Request3 { motors } else { n };
-        Former { words, without, n, limits, states, targets, one, top }
+        Former { words, page: String::new(), without, motors, n, limits, states, targets, one, top }
     }
 
-    /// A sheet that the drive without request 3 accepts, with its page, or the number of its refusal.
-    pub fn read(sheet: &[u8]) -> Result<(Former, String), Number> {
-        let mut former = Former::new(sizes(&frame(sheet, 0)?)?, Without::Request3);
-        let (mut page, mut line) = (String::new(), 0);
+    /// An image up to its length, or the number of its refusal.
+    pub fn open(image: &[u8], without: Without) -> Result<Former, Number> {
+        let words = words(image);
+        if !fit(words.get(..8).ok_or(6u32)?) {
+            return Err(3);
+        }
+        let former = Former::new(words, without);
+        let count: usize = former.layout().iter().map(|(_, rows, columns, _)| rows * columns).sum();
+        if image.len() == 4 * (8 + count) { Ok(former) } else { Err(6) }
+    }
+
+    /// A sheet up to its end, or the number of its refusal.
+    pub fn read(sheet: &[u8], without: Without) -> Result<Former, Number> {
+        let mut former = Former::new(sizes(&frame(sheet, 0)?)?, without);
+        let mut line = 0;
         for (kind, rows, columns, up) in former.layout() {
-            for (row, column) in pairs(rows, columns) {
+            for (row, column) in places(kind, rows, columns) {
                 line += 1;
                 let frame = frame(sheet, line)?;
                 if frame[..3] != [kind, row as u8, column as u8] {
@@ -53,24 +69,28 @@ impl Former {
                 let kept = (count + 0.0) / former.one as f64;
                 let mark = if given == kept { 'K' } else { 'M' };
                 let (given, kept) = (given.to_bits(), kept.to_bits());
-                page += &format!("{kind:02X} {row:02X}{column:02X} {given:016X} {kept:016X} {mark}\n");
+                former.page += &format!("{kind:02X} {row:02X}{column:02X} {given:016X} {kept:016X} {mark}\n");
                 former.words.push(count as i64);
             }
         }
-        match former.number() {
-            _ if sheet.len() > 23 * (line + 1) => Err(4),
-            0 => Ok((former, page)),
+        if sheet.len() > 23 * (line + 1) { Err(4) } else { Ok(former) }
+    }
+
+    /// Unless a later check refuses it.
+    pub fn accepted(self) -> Result<Former, Number> {
+        match self.number() {
+            0 => Ok(self),
             number => Err(number),
         }
     }
 
     fn layout(&self) -> [Lines; 8] {
-        let &Former { n, limits, states, targets, .. } = self;
+        let &Former { motors, n, limits, states, targets, .. } = self;
         [
             (2, n, n, false),
             (3, n, states, false),
-            (4, limits, 1, true),
-            (5, limits, 1, false),
+            (4, motors, limits / motors, true),
+            (5, motors, limits / motors, false),
             (6, 1, 1, true),
             (7, states, 1, true),
             (8, n, targets, false),
@@ -147,27 +167,34 @@ impl Former {
     fn sum(&self, count: usize, term: impl Fn(usize) -> i128, round: fn(&Former, i128) -> i128) -> i128 {
         let terms = (0..count).map(term);
         match self.without {
-            Without::Request3 => round(self, terms.sum()),
             Without::Request4 => terms.map(|term| round(self, term)).sum(),
+            _ => round(self, terms.sum()),
         }
     }
 
     fn c(&self) -> i128 {
         match self.without {
-            Without::Request3 => 1,
             Without::Request4 => self.n.max(self.inputs()) as i128,
+            _ => 1,
         }
     }
 
-    /// The first of 5, for a word beyond top, and of 7 to 12 that is due, or 0.
+    /// Can every command be zero?
+    pub fn can_stop(&self) -> bool {
+        (0..self.n).all(|k| self.low(k) <= 0 && 0 <= self.high(k))
+    }
+
+    /// The first of 5, 7, 17 and 8 to 12 that is due, or 0.
     pub fn number(&self) -> Number {
         let (n, one, beta) = (self.n, self.one, self.beta());
         let radius = |i| (0..n).filter(|&j| j != i).map(|j| self.cost(i, j).abs()).sum::<i128>();
         let margin = (0..n).map(|i| self.cost(i, i) - radius(i)).min().unwrap();
         let total = (0..n).map(|i| self.cost(i, i) + radius(i)).max().unwrap();
+        let below_zero = (0..self.inputs()).any(|j| self.input_limit(j) < 0);
         let faults = [
-            (5, self.words[8..].iter().any(|word| i128::from(word.abs()) > self.top)),
+            (5, below_zero || self.words[8..].iter().any(|word| i128::from(word.abs()) > self.top)),
             (7, (0..n).any(|k| self.low(k) > self.high(k))),
+            (17, self.without != Without::Request6 && !self.can_stop()),
             (8, pairs(n, n).any(|(i, j)| self.cost(i, j) != self.cost(j, i))),
             (9, margin < 1),
             (10, total > one),
@@ -185,6 +212,20 @@ impl Former {
         let a = |i| self.sum(n, |j| self.m(i, j).abs() * y(j), Former::ceil);
         let b = |i| self.sum(self.inputs(), |j| self.gain(i, j).abs() * self.input_limit(j), Former::ceil);
         (0..n).any(|k| p(k) > top || y(k) > top || a(k) + b(k) > top)
+    }
+
+    /// The values nearest zero.
+    pub fn cold_start(&self) -> Vec<i64> {
+        (0..self.n).map(|k| 0.min(self.high(k)).max(self.low(k)) as i64).collect()
+    }
+
+    /// An accepted image's answer for a state, a target and a start, or the first of 13, 16 and 14 that is due.
+    pub fn solve(&self, [state, target, start]: [&[u8]; 3]) -> Result<Vec<i64>, Number> {
+        let input = |j| (-self.input_limit(j), self.input_limit(j));
+        let state = lent(state, self.states, input).ok_or(13u32)?;
+        let target = lent(target, self.targets, |j| input(self.states + j)).ok_or(16u32)?;
+        let start = lent(start, self.n, |k| (self.low(k), self.high(k))).ok_or(14u32)?;
+        Ok(self.answer(&[state, target].concat(), &start))
     }
 
     /// An accepted image's commands, then its bounds, for the state and the target in one list.
@@ -215,6 +256,21 @@ fn pairs(rows: usize, columns: usize) -> impl Iterator<Item = (usize, usize)> {
     (0..rows).flat_map(move |i| (0..columns).map(move |j| (i, j)))
 }
 
+/// The rows and columns of a kind's lines in order. Of limits the columns are outermost.
+fn places(kind: u8, rows: usize, columns: usize) -> Vec<(usize, usize)> {
+    match kind {
+        4 | 5 => pairs(columns, rows).map(|(column, row)| (row, column)).collect(),
+        _ => pairs(rows, columns).collect(),
+    }
+}
+
+/// The words of a lent buffer, if they are so many and each is within its range.
+fn lent(buffer: &[u8], count: usize, range: impl Fn(usize) -> (i128, i128)) -> Option<Vec<i64>> {
+    let values = words(buffer);
+    let within = |(i, &value): (usize, &i64)| (range(i).0..=range(i).1).contains(&i128::from(value));
+    (buffer.len() == 4 * count && values.iter().enumerate().all(within)).then_some(values)
+}
+
 /// The bytes of a line. There is none: 4; it is malformed or cut: 1.
 fn frame(sheet: &[u8], line: usize) -> Result<Vec<u8>, Number> {
     let rest = sheet.get(23 * line..).filter(|rest| !rest.is_empty()).ok_or(4u32)?;
@@ -231,7 +287,12 @@ fn sizes(frame: &[u8]) -> Result<Vec<i64>, Number> {
     }
     let [motors, steps, states, bits, width, targets] = [1, 2, 3, 4, 5, 6].map(|i| i64::from(frame[i]));
     let words = vec![motors, steps, states, bits, width, 256 * i64::from(frame[7]) + i64::from(frame[8]), targets, 0];
+    if fit(&words) { Ok(words) } else { Err(3) }
+}
+
+/// Are these the first eight words of an image?
+fn fit(words: &[i64]) -> bool {
     let ranges = [1..=4, 1..=16, 1..=12, 4..=20, 8..=32, 1..=400, 0..=4, 0..=0];
     let fit = words.iter().zip(ranges).all(|(word, range)| range.contains(word));
-    if fit && motors * steps <= 16 && bits <= width - 2 { Ok(words) } else { Err(3) }
+    fit && words[0] * words[1] <= 16 && words[3] <= words[4] - 2
 }

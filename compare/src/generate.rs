@@ -12,12 +12,14 @@ use crate::random::Random;
 use crate::rules::Use;
 use crate::sheet::{Frame, LINE, MOST_LINES, hex};
 
-pub const INTAKE_NUMBERS: [Number; 12] = [1, 2, 3, 4, 5, 7, 8, 9, 10, 11, 12, 15];
-pub const PAGE_NUMBERS: [Number; 12] = INTAKE_NUMBERS;
-pub const COLD_START_NUMBERS: [Number; 10] = [3, 5, 6, 7, 8, 9, 10, 11, 12, 15];
-pub const SOLVE_NUMBERS: [Number; 13] = [3, 5, 6, 7, 8, 9, 10, 11, 12, 13, 16, 14, 15];
-pub const LABEL_NUMBERS: [Number; 13] = [1, 2, 3, 4, 5, 7, 8, 9, 10, 11, 12, 13, 16];
-pub const PAGE_PROGRAM_NUMBERS: [Number; 11] = [1, 2, 3, 4, 5, 7, 8, 9, 10, 11, 12];
+pub const INTAKE_NUMBERS: [Number; 13] = [1, 2, 3, 4, 5, 7, 17, 8, 9, 10, 11, 12, 15];
+pub const PAGE_NUMBERS: [Number; 13] = INTAKE_NUMBERS;
+pub const COLD_START_NUMBERS: [Number; 11] = [3, 5, 6, 7, 17, 8, 9, 10, 11, 12, 15];
+pub const SOLVE_NUMBERS: [Number; 14] = [3, 5, 6, 7, 17, 8, 9, 10, 11, 12, 13, 16, 14, 15];
+pub const LABEL_NUMBERS: [Number; 14] = [1, 2, 3, 4, 5, 7, 17, 8, 9, 10, 11, 12, 13, 16];
+pub const PAGE_PROGRAM_NUMBERS: [Number; 12] = [1, 2, 3, 4, 5, 7, 17, 8, 9, 10, 11, 12];
+/// Those of the tables.
+pub const TABLE_NUMBERS: [Number; 7] = [7, 17, 8, 9, 10, 11, 12];
 
 /// What is to be spoilt: the numbers to provoke, and whether bytes are damaged at random besides.
 pub struct Plan {
@@ -46,6 +48,16 @@ impl Plan {
 
     pub fn only(number: Number) -> Plan {
         Plan { numbers: vec![number], damage: false }
+    }
+
+    /// In turn 17 beside each number, before it or behind it, and the plans above.
+    pub fn with_stop(random: &mut Random, index: u64, numbers: &[Number]) -> Plan {
+        let (turn, index) = (index % 2, index / 2);
+        let number = numbers[index as usize % numbers.len()];
+        match turn {
+            0 => Plan { numbers: random.pick(&[[17, number], [number, 17]]).to_vec(), damage: false },
+            _ => Plan::new(random, index, numbers),
+        }
     }
 
     pub fn is_nothing(&self) -> bool {
@@ -113,9 +125,11 @@ fn cost_table(random: &mut Random, sizes: &Sizes) -> Vec<i64> {
     table
 }
 
+/// Limits that hold zero, often at one of them or at both.
 fn limits(random: &mut Random, most: i64) -> (i64, i64) {
-    let (a, b) = (random.between(-most, most), random.between(-most, most));
-    let pairs = [(-most, most), (0, most), (-most, 0), (a, a), (a.min(b), a.max(b)), (a.min(b), a.max(b))];
+    let (below, above) = (-random.between(0, most), random.between(0, most));
+    let one_sided = [(0, most), (-most, 0), (0, above), (below, 0), (0, 0)];
+    let pairs = [(-most, most), (below, above), (below, above), random.pick(&one_sided), random.pick(&one_sided)];
     random.pick(&pairs)
 }
 
@@ -154,9 +168,7 @@ fn choose_limits(random: &mut Random, draft: &mut Draft) {
         }
     }
     if course != Course::Same && random.one_in(3) {
-        let command = random.below(motors * steps);
-        let point = random.between(draft.section(LOW)[command], draft.section(HIGH)[command]);
-        set_limits(draft, command, point, point);
+        set_limits(draft, random.below(motors * steps), 0, 0);
     }
     halve_to_headroom(draft, &[LOW, HIGH]);
 }
@@ -166,7 +178,7 @@ fn set_limits(draft: &mut Draft, command: usize, low: i64, high: i64) {
     draft.section(HIGH)[command] = high;
 }
 
-/// What becomes of a motor's limits along the steps.
+/// What becomes of a motor's limits along the steps. Zero stays within them.
 #[derive(Clone, Copy, PartialEq, Eq)]
 enum Course {
     Same,
@@ -180,7 +192,7 @@ fn limits_of_steps(random: &mut Random, most: i64, steps: usize, course: Course)
     let center = random.between(low, high);
     let narrowed = |step: usize| {
         let part = |limit: i64| center + (limit - center) * (steps - step) as i64 / steps as i64;
-        (part(low), part(high))
+        (part(low).min(0), part(high).max(0))
     };
     match course {
         Course::Same => vec![(low, high); steps],
@@ -277,14 +289,13 @@ fn at_headroom(random: &mut Random, draft: &mut Draft, beyond: i64) {
         LOW => -1,
         GAIN | TARGET_GAIN if old != 0 => old.signum(),
         GAIN | TARGET_GAIN => random.sign(),
-        _ if both => random.sign(),
         _ => 1,
     };
     let set = |draft: &mut Draft, magnitude: i64| {
         for &index in &indices {
             draft.section(kind)[index] = sign * magnitude;
             if both {
-                draft.section(LOW)[index] = sign * magnitude;
+                draft.section(LOW)[index] = -magnitude;
             }
         }
     };
@@ -292,7 +303,7 @@ fn at_headroom(random: &mut Random, draft: &mut Draft, beyond: i64) {
     set(draft, last + beyond);
 }
 
-/// Provokes one of the numbers 5 and 7 to 12 in the tables.
+/// Provokes one of the numbers 5, 7, 17 and 8 to 12 in the tables.
 fn spoil_tables(random: &mut Random, draft: &mut Draft, number: Number) {
     let (n, one, top) = (draft.sizes.commands(), draft.sizes.one(), draft.sizes.top());
     let (row, more) = (random.below(n), if random.one_in(2) { 0 } else { random.magnitude(one) });
@@ -301,9 +312,11 @@ fn spoil_tables(random: &mut Random, draft: &mut Draft, number: Number) {
         5 => word_beyond(random, draft),
         7 => {
             let command = random.below(n);
-            let high = random.between(-top, draft.section(HIGH)[command].min(top - 1));
+            let any = random.between(-top, draft.section(HIGH)[command].min(top - 1));
+            let high = random.pick(&[any, any, 0, -1]);
             set_limits(draft, command, (high + 1 + more).min(top), high);
         }
+        17 => exclude_zero(random, draft, (1 + more).min(top)),
         8 => {
             let column = (row + 1 + random.below(n)) % n;
             let entry = &mut draft.section(COST)[row * n + column];
@@ -320,6 +333,24 @@ fn spoil_tables(random: &mut Random, draft: &mut Draft, number: Number) {
         }
         12 => spoil_headroom(random, draft),
         _ => {}
+    }
+}
+
+/// Provokes 17 at a command, or at all steps of a motor: a limit is this far on the wrong side of zero.
+fn exclude_zero(random: &mut Random, draft: &mut Draft, least: i64) {
+    let (n, motors) = (draft.sizes.commands(), draft.sizes.motors);
+    let command = random.below(n);
+    let (above, point, alike) = (random.one_in(2), random.one_in(4), random.one_in(4));
+    let commands = if alike { (command % motors..n).step_by(motors).collect() } else { vec![command] };
+    for command in commands {
+        let (low, high) = (draft.section(LOW)[command], draft.section(HIGH)[command]);
+        let (low, high) = match (above, point) {
+            (true, true) => (least, least),
+            (true, false) => (least, high.max(least)),
+            (false, true) => (-least, -least),
+            (false, false) => (low.min(-least), -least),
+        };
+        set_limits(draft, command, low, high);
     }
 }
 

@@ -13,8 +13,8 @@ use crate::sheet::hex;
 
 const GUARD: u8 = 0xA5;
 const GUARD_LEN: usize = 32;
-/// 0 to 16.
-pub const NUMBERS: usize = 17;
+/// 0 to 17.
+pub const NUMBERS: usize = 18;
 /// Failures printed in full; later ones are only counted.
 const PRINTED: u64 = 5;
 
@@ -93,7 +93,7 @@ pub struct Harness<'a> {
     pub inputs: BTreeSet<(i64, i64)>,
     /// The nu and N of those whose limits change from step to step.
     pub changing: BTreeSet<(i64, i64)>,
-    /// How often a random solve lay at an edge of check 12, or was another than before request 4.
+    /// How often a random solve lay at an edge of check 12 or 17, or was another than before request 4 or 6.
     pub edges: BTreeMap<&'static str, u64>,
     /// The kinds of accepted pages by their last digit, and the marks.
     pub marks: BTreeSet<(u8, u8)>,
@@ -145,8 +145,8 @@ impl<'a> Harness<'a> {
         self.meet(call.kind.name(), expected.number);
         match (call.kind, &expected.written) {
             (Kind::Solve, Some(_)) if self.is_random() => self.cover_solve(&call.inputs[0]),
-            (Kind::Solve, None) if self.is_random() && expected.number == 12 => {
-                self.cover_edges(&problem_of(&call.inputs[0]));
+            (Kind::Solve, None) if self.is_random() && matches!(expected.number, 12 | 17) => {
+                self.cover_edges(&problem_of(&call.inputs[0]), expected.number);
             }
             (Kind::Page, Some(page)) => self.cover_page(page),
             _ => {}
@@ -171,11 +171,11 @@ impl<'a> Harness<'a> {
         if problem.limits_change() {
             self.changing.insert((header[0], header[1]));
         }
-        self.cover_edges(&problem);
+        self.cover_edges(&problem, 0);
     }
 
-    fn cover_edges(&mut self, problem: &Problem) {
-        edges::of_problem(problem).into_iter().for_each(|edge| self.meet_edge(edge));
+    fn cover_edges(&mut self, problem: &Problem, number: Number) {
+        edges::of_problem(problem, number).into_iter().for_each(|edge| self.meet_edge(edge));
     }
 
     pub fn meet_edge(&mut self, edge: &'static str) {

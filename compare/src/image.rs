@@ -1,4 +1,4 @@
-//! The image: its layout, and the checks 6, 3, 6, 5 and 7 to 12 in their order.
+//! The image: its layout, and the checks 6, 3, 6, 5, 7, 17 and 8 to 12 in their order.
 
 use std::ops::Index;
 
@@ -254,11 +254,12 @@ impl Problem {
         high - low
     }
 
-    /// The checks 7 to 12: each number over all its rows before the next.
+    /// The checks 7, 17 and 8 to 12: each number over all its rows before the next.
     pub fn check(&self) -> Result<(), Number> {
         type Fault = fn(&Problem) -> bool;
-        let faults: [(Number, Fault); 6] = [
+        let faults: [(Number, Fault); 7] = [
             (7, Problem::limits_cross),
+            (17, Problem::stop_is_impossible),
             (8, Problem::is_not_symmetric),
             (9, |p| p.least_margin() < 1),
             (10, |p| p.largest_total() > p.sizes.one()),
@@ -273,6 +274,11 @@ impl Problem {
 
     fn limits_cross(&self) -> bool {
         self.command_ranges(Use::Crossing).iter().any(|(low, high)| low > high)
+    }
+
+    fn stop_is_impossible(&self) -> bool {
+        let excludes = self.rules.other_stop.unwrap_or(|_, limits| excludes_zero(limits));
+        self.command_ranges(Use::Stop).into_iter().any(|limits| excludes(self, limits))
     }
 
     fn is_not_symmetric(&self) -> bool {
@@ -315,17 +321,19 @@ impl Problem {
         (0..self.sizes.commands()).any(|k| self.row_bound(k, &points) > top)
     }
 
+    /// P and Y of a command.
+    pub fn command_bounds(&self, k: usize) -> (i128, i128) {
+        let (low, high) = self.limits(Use::Magnitude, k);
+        let (largest, momentum) = (low.abs().max(high.abs()) as i128, self.momentum as i128);
+        let with = |share: i128| largest + self.up(momentum * share);
+        (with(largest), with(self.width(Use::Spread, k) as i128))
+    }
+
     /// Y of every command, unless a P or a Y is above top.
     pub fn point_bounds(&self) -> Option<Vec<i64>> {
-        let (top, momentum) = (self.sizes.top() as i128, self.momentum as i128);
-        let point_bound = |k| {
-            let (low, high) = self.limits(Use::Magnitude, k);
-            let largest = low.abs().max(high.abs()) as i128;
-            let product_bound = largest + self.up(momentum * largest);
-            let point_bound = largest + self.up(momentum * self.width(Use::Spread, k) as i128);
-            (product_bound <= top && point_bound <= top).then_some(point_bound as i64)
-        };
-        (0..self.sizes.commands()).map(point_bound).collect()
+        let top = self.sizes.top() as i128;
+        let bounds = (0..self.sizes.commands()).map(|k| self.command_bounds(k));
+        bounds.map(|(p, y)| (p <= top && y <= top).then_some(y as i64)).collect()
     }
 
     /// A + B of a row: two sums, each rounded up once.
@@ -356,6 +364,11 @@ impl Problem {
         }
         row
     }
+}
+
+/// Is zero outside these limits? At a limit it is inside.
+pub fn excludes_zero((low, high): (i64, i64)) -> bool {
+    low > 0 || high < 0
 }
 
 /// The products of a row and a list of values, undivided.

@@ -1,4 +1,4 @@
-//! The second program: document 01 with requests 1 to 5 implemented on its own, beside the static library, the label
+//! The second program: document 01 with requests 1 to 6 implemented on its own, beside the static library, the label
 //! program and the page program.
 
 mod big;
@@ -36,7 +36,7 @@ compare --label and compare --page act as the label and the page program in the 
 const COUNT: u64 = 100_000;
 const LONG_COUNT: u64 = 20 * COUNT;
 /// From this count on a run has to have met every number of every call, every size, every nr with every n and with every
-/// nx, limits that change along every N, every edge of check 12, and all that request 4 changes.
+/// nx, limits that change along every N, every edge of checks 12 and 17, and all that requests 4 and 6 change.
 const COVERING_COUNT: u64 = 20_000;
 
 struct Options {
@@ -169,7 +169,8 @@ fn require_cover(harness: &mut Harness) {
         }
     }
     require_problems(harness);
-    for edge in edges::EDGES.into_iter().chain(trials::CHANGES) {
+    let stopped = trials::STOPPED.into_iter().map(|(_, edge)| edge);
+    for edge in edges::all().chain(trials::CHANGES).chain(stopped) {
         let met = harness.edges.get(edge).copied().unwrap_or(0);
         println!("random solves, {edge}: {met}");
         harness.check(met > 0, || format!("  no random solve: {edge}"));

@@ -1,4 +1,4 @@
-//! Where a false economy departs from the rules of document 01 and requests 1, 3, 4 and 5; those of request 2 change
+//! Where a false economy departs from the rules of document 01 and requests 1, 3, 4, 5 and 6; those of request 2 change
 //! the page alone.
 
 use crate::image::{Problem, Sizes};
@@ -8,13 +8,14 @@ use crate::image::{Problem, Sizes};
 pub enum Use {
     /// Number 7.
     Crossing,
+    /// Number 17.
+    Stop,
     /// zb.
     Magnitude,
     /// w in Y.
     Spread,
     /// Number 14.
     Start,
-    ColdStart,
     Sweep,
     /// w in the error bound.
     Bound,
@@ -55,6 +56,8 @@ pub struct Rules {
     pub other_loop: Option<(Terms, Times)>,
     /// Another t of a row's products.
     pub other_t: Option<fn(&Row) -> i128>,
+    /// Another test of a command's low and high for 17.
+    pub other_stop: Option<fn(&Problem, (i64, i64)) -> bool>,
     /// Another A + B of a row, behind the tests of P and Y.
     pub other_headroom: Option<fn(&Problem, usize) -> i128>,
     /// Another command's limits in some uses.

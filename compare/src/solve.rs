@@ -170,8 +170,9 @@ fn held(value: i64, (low, high): (i64, i64)) -> i64 {
     value.min(high).max(low)
 }
 
+/// The values nearest zero are zeros: behind 17 every command can be zero.
 pub fn cold_start(problem: &Problem) -> Vec<i64> {
-    problem.command_ranges(Use::ColdStart).into_iter().map(|limits| held(0, limits)).collect()
+    vec![0; problem.sizes.commands()]
 }
 
 /// The commands, then the bounds.

@@ -7,7 +7,7 @@ use crate::big::Big;
 use crate::cases;
 use crate::double::{self, Rounding};
 use crate::draft::Draft;
-use crate::drive::{Call, Kind};
+use crate::drive::{Call, Kind, Outcome};
 use crate::economies;
 use crate::former::{Former, Without};
 use crate::generate::{self, Plan, SolveCase};
@@ -37,11 +37,14 @@ pub fn run(harness: &mut Harness, group: &Group, index: u64) {
 
 pub fn groups(count: u64, has_conversions: bool, work: &Path) -> Vec<Group> {
     let group = |name, count, trial: fn(&mut Harness, u64, &mut Random)| Group { name, count, trial: Box::new(trial) };
+    let table = cases::table();
     let mut groups = vec![
         group("itself", 1, itself),
-        group("cases", cases::table().len() as u64, |harness, index, _| {
-            cases::run(harness, &cases::table()[index as usize]);
-        }),
+        Group {
+            name: "cases",
+            count: table.len() as u64,
+            trial: Box::new(move |harness, index, _| cases::run(harness, &table[index as usize])),
+        },
         group("economies", economies::count(), |harness, index, _| economies::run(harness, index)),
         group("damage", damaged_bytes(), damage),
         group("solve", count, solve),
@@ -92,7 +95,9 @@ fn cold_start(harness: &mut Harness, index: u64, random: &mut Random) {
     let plan = Plan::new(random, index, &generate::COLD_START_NUMBERS);
     let case = generate::solve_case(random, &plan);
     let out_len = generate::out_len(random, &plan, 4 * case.draft.sizes.commands());
-    harness.compare(&Call::on_buffers(Kind::ColdStart, &[&case.image], out_len));
+    let outcome = harness.compare(&Call::on_buffers(Kind::ColdStart, &[&case.image], out_len));
+    let holds = outcome.written.is_none_or(|start| start.iter().all(|&byte| byte == 0));
+    harness.check(holds, || "  the cold start is not all zeros".to_string());
 }
 
 fn intake(harness: &mut Harness, index: u64, random: &mut Random) {
@@ -114,6 +119,19 @@ fn page(harness: &mut Harness, index: u64, random: &mut Random) {
     let outcome = harness.compare(&Call::on_buffers(Kind::Page, &[&sheet], page_len));
     if let Some(page) = outcome.written {
         put_back(harness, &sheet, &page);
+        let holds = page.chunks(PAGE_LINE).all(holds_zero);
+        harness.check(holds, || "  a kept limit keeps a command from zero".to_string());
+    }
+}
+
+/// Is this no line of a limit, or one whose kept double is zero or on the limit's own side of it?
+fn holds_zero(line: &[u8]) -> bool {
+    let is_zero = line[page::KEPT].iter().all(|&digit| digit == b'0');
+    let is_negative = line[page::KEPT.start] >= b'8';
+    match &line[page::KIND] {
+        b"04" => is_zero || is_negative,
+        b"05" => !is_negative,
+        _ => true,
     }
 }
 
@@ -134,8 +152,8 @@ fn put_back(harness: &mut Harness, sheet: &[u8], page: &[u8]) {
 }
 
 /// Small problems, whose bytes are damaged one by one.
-fn victims() -> [Draft; 4] {
-    [cases::sample(), cases::two_motors(), cases::two_targets(), cases::motors_and_steps()]
+fn victims() -> [Draft; 5] {
+    [cases::sample(), cases::two_motors(), cases::two_targets(), cases::motors_and_steps(), cases::one_sided()]
 }
 
 fn damaged_bytes() -> u64 {
@@ -184,6 +202,7 @@ fn demand3(harness: &mut Harness, index: u64, random: &mut Random) {
     let mut rounded = Rounded::new(&problem, &inputs, &start_words);
     let mut bound = ErrorBound::new(&problem);
     let mut exact = Exact::new(&problem, &inputs, &start_words);
+    harness.check(can_stop(&problem), || format!("  a command can't be zero in image {:?}", draft.body));
     let mut holds = linear_in_range(&problem, &rounded, &inputs) && iterates_in_range(&problem, &rounded);
     for iteration in 1..=iterations {
         holds &= products_in_range(&problem, &rounded);
@@ -201,6 +220,15 @@ fn demand3(harness: &mut Harness, index: u64, random: &mut Random) {
             harness.check(outcome.written == prefix, || format!("  no prefix: {iteration} sweeps"));
         }
     }
+}
+
+/// By request 6 zero is within the limits; so w is not below zb, and Y not below P.
+fn can_stop(problem: &Problem) -> bool {
+    (0..problem.sizes.commands()).all(|k| {
+        let (low, high) = (problem.lower[k], problem.upper[k]);
+        let (p, y) = problem.command_bounds(k);
+        (low..=high).contains(&0) && high - low >= low.abs().max(high.abs()) && p <= y
+    })
 }
 
 fn in_word(problem: &Problem, value: i64) -> bool {
@@ -245,14 +273,22 @@ fn is_near(rounded: &Rounded, bound: &ErrorBound, exact: &Exact) -> bool {
     (0..rounded.z.len()).all(|k| exact.is_near(k, rounded.z[k], bound.e[k]))
 }
 
-/// Requests 3 and 4 beside the drive without the one, and without the other.
+/// Requests 3, 4 and 6, each beside the drive that lacks it alone.
 fn former(harness: &mut Harness, index: u64, random: &mut Random) {
     one_step(harness, index, random);
     former_layout(harness, random);
     same_limits(harness, index, random);
-    let plan = if index.is_multiple_of(2) { Plan::nothing() } else { Plan::only(random.between(7, 12) as Number) };
+    let plan = nothing_or_table(index, random);
     rounded_terms(harness, &generate::solve_case(random, &plan));
     rounded_terms(harness, &generate::single_case(random, &plan));
+    stopped_sheet(harness, index, random);
+    stopped_image(harness, index, random);
+}
+
+/// In turn nothing, and a number of the tables.
+fn nothing_or_table(index: u64, random: &mut Random) -> Plan {
+    let number = random.pick(&generate::TABLE_NUMBERS);
+    if index.is_multiple_of(2) { Plan::nothing() } else { Plan::only(number) }
 }
 
 /// A sheet with N 1, accepted or not, reads as before.
@@ -263,24 +299,29 @@ fn one_step(harness: &mut Harness, index: u64, random: &mut Random) {
     if sheet.get(4..6).is_some_and(|steps| steps != b"01") {
         return;
     }
-    let (number, image, page) = match Former::read(&sheet) {
-        Ok((former, page)) => (0, Some(bytes(&former.words)), Some(page.into_bytes())),
-        Err(number) => (number, None, None),
-    };
-    for (kind, out_len, written) in
-        [(Kind::Intake, draft.image().len(), image), (Kind::Page, PAGE_LINE * draft.body.len(), page)]
-    {
-        let outcome = harness.compare(&Call::on_buffers(kind, &[&sheet], out_len));
-        let holds = (outcome.number, outcome.written) == (number, written);
-        harness.check(holds, || format!("  {}: N 1 does not read as before, with {number}", kind.name()));
+    let former = Former::read(&sheet, Without::Request3).and_then(Former::accepted);
+    for (kind, out_len) in [(Kind::Intake, draft.image().len()), (Kind::Page, PAGE_LINE * draft.body.len())] {
+        let expected = former.as_ref().map(|former| former_output(former, kind)).map_err(|&number| number);
+        let found = result(harness.compare(&Call::on_buffers(kind, &[&sheet], out_len)));
+        harness.check(found == expected, || format!("  {}: N 1 does not read as before: {expected:?}", kind.name()));
     }
+}
+
+fn result(outcome: Outcome) -> Result<Vec<u8>, Number> {
+    outcome.written.ok_or(outcome.number)
+}
+
+/// The image, or the page, of the sheet that it was read from.
+fn former_output(former: &Former, kind: Kind) -> Vec<u8> {
+    if kind == Kind::Page { former.page.clone().into_bytes() } else { bytes(&former.words) }
 }
 
 /// A sheet that was accepted with N above 1 is 2 now, and its image has not the length due.
 fn former_layout(harness: &mut Harness, random: &mut Random) {
     let (draft, sheet, former) = loop {
         let (draft, sheet) = generate::former_sheet(random);
-        if let (2.., Ok((former, _))) = (draft.sizes.steps, Former::read(&sheet)) {
+        let former = Former::read(&sheet, Without::Request3).and_then(Former::accepted);
+        if let (2.., Ok(former)) = (draft.sizes.steps, former) {
             break (draft, sheet, former);
         }
     };
@@ -303,8 +344,7 @@ fn former_layout(harness: &mut Harness, random: &mut Random) {
 
 /// Where all steps of a motor have the same limits, as with N 1, number and answer are the former ones.
 fn same_limits(harness: &mut Harness, index: u64, random: &mut Random) {
-    let number = random.between(7, 12) as Number;
-    let plan = if index.is_multiple_of(2) { Plan::nothing() } else { Plan::only(number) };
+    let plan = nothing_or_table(index, random);
     let case = first(|| generate::solve_case(random, &plan), |case| !case.draft.problem().limits_change());
     let expected = former_answer(&case, Former::new(case.draft.former_words(), Without::Request3));
     let found = answer(harness, &case);
@@ -313,15 +353,12 @@ fn same_limits(harness: &mut Harness, index: u64, random: &mut Random) {
 
 fn answer(harness: &mut Harness, case: &SolveCase) -> Result<Vec<u8>, Number> {
     let lent: [&[u8]; 4] = [&case.image, &case.state, &case.target, &case.start];
-    let outcome = harness.compare(&Call::on_buffers(Kind::Solve, &lent, 8 * case.draft.sizes.commands()));
-    outcome.written.ok_or(outcome.number)
+    result(harness.compare(&Call::on_buffers(Kind::Solve, &lent, 8 * case.draft.sizes.commands())))
 }
 
 fn former_answer(case: &SolveCase, former: Former) -> Result<Vec<u8>, Number> {
-    match former.number() {
-        0 => Ok(bytes(&former.answer(&[words(&case.state), words(&case.target)].concat(), &words(&case.start)))),
-        number => Err(number),
-    }
+    let answer = former.accepted()?.solve([&case.state, &case.target, &case.start])?;
+    Ok(bytes(&answer))
 }
 
 /// What request 4 changes, and a run has to meet.
@@ -360,6 +397,70 @@ fn is_change(harness: &mut Harness, former: &Result<Vec<u8>, Number>, found: &Re
         }
         _ => false,
     }
+}
+
+/// The numbers of solves before request 6 that are 17 where a command can't be zero, all of which a run has to meet.
+pub const STOPPED: [(Number, &str); 10] = [
+    (0, "17, accepted before request 6"),
+    (8, "17, 8 before request 6"),
+    (9, "17, 9 before request 6"),
+    (10, "17, 10 before request 6"),
+    (11, "17, 11 before request 6"),
+    (12, "17, 12 before request 6"),
+    (13, "17, 13 before request 6"),
+    (14, "17, 14 before request 6"),
+    (15, "17, 15 before request 6"),
+    (16, "17, 16 before request 6"),
+];
+
+/// Request 6 beside the drive without it, on sheets.
+fn stopped_sheet(harness: &mut Harness, index: u64, random: &mut Random) {
+    let plan = Plan::with_stop(random, index, &generate::INTAKE_NUMBERS);
+    let (draft, sheet) = generate::sheet_case(random, &plan);
+    let former = Former::read(&sheet, Without::Request6);
+    let image_len = generate::out_len(random, &plan, draft.image().len());
+    let page_len = generate::page_len(random, &plan, &draft.sizes);
+    for (kind, out_len) in [(Kind::Intake, image_len), (Kind::Page, page_len)] {
+        let call = Call::on_buffers(kind, &[&sheet], out_len);
+        stopped(harness, &call, &former, |former| Ok(former_output(former, kind)));
+    }
+}
+
+/// The same on images.
+fn stopped_image(harness: &mut Harness, index: u64, random: &mut Random) {
+    let plan = Plan::with_stop(random, index, &generate::SOLVE_NUMBERS);
+    let SolveCase { draft, image, state, target, start } = generate::solve_case(random, &plan);
+    let former = Former::open(&image, Without::Request6);
+    let n = draft.sizes.commands();
+    let [start_len, answer_len] = [4 * n, 8 * n].map(|exact| generate::out_len(random, &plan, exact));
+    let call = Call::on_buffers(Kind::ColdStart, &[&image], start_len);
+    stopped(harness, &call, &former, |former| Ok(bytes(&former.cold_start())));
+    let call = Call::on_buffers(Kind::Solve, &[&image, &state, &target, &start], answer_len);
+    stopped(harness, &call, &former, |former| Ok(bytes(&former.solve([&state, &target, &start])?)));
+}
+
+/// Where every command can be zero, a call answers as before; elsewhere numbers up to 7 stay, and all else is 17.
+fn stopped(
+    harness: &mut Harness,
+    call: &Call,
+    former: &Result<Former, Number>,
+    answer: impl Fn(&Former) -> Result<Vec<u8>, Number>,
+) {
+    let before = match former {
+        Err(number) => Err(*number),
+        Ok(former) => match former.number() {
+            0 => answer(former).and_then(|written| if written.len() == call.out_len { Ok(written) } else { Err(15) }),
+            number => Err(number),
+        },
+    };
+    let is_stopped = !matches!(before, Err(..=7)) && former.as_ref().is_ok_and(|former| !former.can_stop());
+    let number = before.as_ref().err().copied().unwrap_or(0);
+    if let (true, Kind::Solve, Some((_, edge))) = (is_stopped, call.kind, STOPPED.iter().find(|s| s.0 == number)) {
+        harness.meet_edge(edge);
+    }
+    let expected = if is_stopped { Err(17) } else { before };
+    let found = result(harness.compare(call));
+    harness.check(found == expected, || format!("  by the drive without request 6 it is {expected:?}"));
 }
 
 /// The commands' words, and the bounds, which are unsigned.
@@ -435,6 +536,7 @@ fn to_double(harness: &mut Harness, index: u64, random: &mut Random) {
 fn itself(harness: &mut Harness, _: u64, random: &mut Random) {
     big_agrees(harness, random);
     conversions_agree(harness, random);
+    signs_agree(harness, random);
     sample_agrees(harness);
     programs_agree(harness);
     marks_agree(harness, random);
@@ -442,6 +544,7 @@ fn itself(harness: &mut Harness, _: u64, random: &mut Random) {
     steps_agree(harness);
     running_sums_agree(harness);
     former_agrees(harness);
+    without_stop_agrees(harness);
     let mut lent = Lent::new(&[1, 2, 3]);
     harness.check(lent.guards_hold(), || "  a guard does not hold by itself".to_string());
     lent.write_beside();
@@ -459,14 +562,31 @@ fn running_sums_agree(harness: &mut Harness) {
     harness.check(holds, || "  the test of running sums does not tell them apart".to_string());
 }
 
-/// The drive without request 4 on coupled steps: −8 + 0 − 10 for −7.5 and 0.75, and c 2. Each term of A is 1 of 0.5.
+/// The drive without request 4 on coupled steps: −8 + 0 − 10 for −7.5 and 0.75, and c 2. Y is 3 and 2, and the terms of
+/// A are 2 for 1.5 and 1 for 0.5.
 fn former_agrees(harness: &mut Harness) {
     let former = |draft: Draft| Former::new(draft.words(), Without::Request4);
     let coupled = former(cases::coupled([(-20, 20), (-2, 5)]).iterations(2));
-    let halves = |limit: i64| former(cases::coupled([(1, 1), (2, 2)]).with(GAIN, &[16, 0]).with(STATE_LIMIT, &[limit]));
+    let halves = |limit: i64| former(cases::coupled([(0, 2), (0, 1)]).with(GAIN, &[16, 0]).with(STATE_LIMIT, &[limit]));
     let holds =
-        coupled.answer(&[10], &[0, 0]) == [-18, -2, 5, 5] && [125, 126].map(|limit| halves(limit).number()) == [0, 12];
+        coupled.answer(&[10], &[0, 0]) == [-18, -2, 5, 5] && [124, 125].map(|limit| halves(limit).number()) == [0, 12];
     harness.check(holds, || "  the drive without request 4 is another".to_string());
+}
+
+/// The drive without request 6 where zero is outside a step, from its cold start (0, 8). h = 0: −32 / 16; 64 / 16, held,
+/// as all that follow at step 1. y = (−3, 12 − 4): (−24 − 32) / 16 = −3.5 is −4. y = (−6 + 1, 8): (−40 − 32) / 16 = −4.5
+/// is −5. y = (−8 + 2, 8), −8 for −7.5: (−48 − 32) / 16. w is 4 at step 1. q: 3, 3; 8, 8; 14 and 4 + 4 + 1. e: 1; 4; 7,
+/// and at step 1 w; (112 + 36) / 16 = 9.25 is 10, 10 + 1, and w.
+fn without_stop_agrees(harness: &mut Harness) {
+    let draft = cases::coupled([(-20, 20), (8, 12)]).iterations(4);
+    let [sheet, image] =
+        [Former::read(&draft.sheet(), Without::Request6), Former::open(&draft.image(), Without::Request6)]
+            .map(|former| former.and_then(Former::accepted).expect("it was accepted"));
+    let holds = sheet.words == image.words
+        && !image.can_stop()
+        && image.cold_start() == [0, 8]
+        && image.answer(&[0], &[0, 8]) == [-5, 8, 11, 4];
+    harness.check(holds, || "  the drive without request 6 is another".to_string());
 }
 
 /// Big numbers beside 128-bit ones.
@@ -503,6 +623,19 @@ fn conversions_agree(harness: &mut Harness, random: &mut Random) {
     }
 }
 
+/// A low is above zero, and a high below it, once it is rounded exactly where it was before.
+fn signs_agree(harness: &mut Harness, random: &mut Random) {
+    for (b, w) in formats() {
+        for bits in doubles(random, b, w) {
+            let given = f64::from_bits(bits);
+            let [low, high] = [Rounding::Up, Rounding::Down].map(|rounding| double::to_word(bits, b, w, rounding));
+            let holds =
+                low.is_none_or(|low| (low > 0) == (given > 0.0)) && high.is_none_or(|high| (high < 0) == (given < 0.0));
+            harness.check(holds, || format!("  {bits:016X} at b {b} is {low:?} as low and {high:?} as high"));
+        }
+    }
+}
+
 /// The programs' tables.
 fn programs_agree(harness: &mut Harness) {
     for program in PROGRAMS {
@@ -528,7 +661,8 @@ fn marks_agree(harness: &mut Harness, random: &mut Random) {
     }
 }
 
-/// S: its text, and −17.5 after three exact sweeps, which a bound of 0 does not cover.
+/// S: its text, and −17.5 after three exact sweeps, which a bound of 0 does not cover. And document 01's 0.03125, which
+/// as a low limit is 1, though no image shows it since request 6.
 fn sample_agrees(harness: &mut Harness) {
     let sample = cases::sample();
     harness.check(sample.sheet() == cases::SAMPLE.as_bytes(), || "  S is not document 01's".to_string());
@@ -539,6 +673,9 @@ fn sample_agrees(harness: &mut Harness) {
     harness.check(holds, || "  S does not reach -17.5".to_string());
     let holds = exact.is_near(0, -18, 1) && !exact.is_near(0, -18, 0) && !exact.is_near(0, -19, 1);
     harness.check(holds, || "  the bound's test does not tell near from far".to_string());
+    let half = 0.03125f64.to_bits();
+    let holds = double::inward(half, half, 4, 8) == Some((1, 0));
+    harness.check(holds, || "  0.03125 is not 1 as low limit and 0 as high limit".to_string());
 }
 
 /// Two motors and two steps: −17.5 after three exact sweeps, as in S, where a step's limits do not hold the command.

@@ -31,7 +31,7 @@ fn without_a(draft: Draft) -> Draft {
     draft.with(COST, &[one])
 }
 
-fn resized(draft: Draft, bits: u32, width: u32) -> Draft {
+pub fn resized(draft: Draft, bits: u32, width: u32) -> Draft {
     Draft { sizes: Sizes { bits, width, ..draft.sizes }, ..draft }
 }
 
@@ -111,7 +111,7 @@ fn small_c() -> Vec<Case> {
     table
 }
 
-const TOP: i64 = (1 << 31) - 1;
+pub const TOP: i64 = (1 << 31) - 1;
 
 /// The widest word at b 20: sums of up to 51 bits.
 fn long_sums() -> Vec<Case> {
@@ -180,15 +180,15 @@ fn headroom_once() -> Vec<Case> {
         headroom(&format!("B, {name}"), &with_inputs(states, targets), expect)
     };
     let eleven = [&[(16, 116)], &[(1, 1); 11][..]].concat();
-    // M is (8,−4),(−4,8) and Y (1, 2) or the reverse: A is 8 × 1 + 4 × 2 = 16, 1 count, in one row, and 4 × 1 + 8 × 2 =
-    // 20 in the other, which has no B.
+    // M is (8,−4),(−4,8) and Y (2 + 1, 1 + 1), 1 for 0.5, or the reverse: A is 8 × 3 + 4 × 2 = 32, 2 counts, in one row,
+    // and 4 × 3 + 8 × 2 = 28 in the other, which has no B.
     let a = |limits, gains: [i64; 2], limit: i64, expect| {
         let draft = coupled(limits).with(GAIN, &gains).with(STATE_LIMIT, &[limit]);
         headroom(&format!("A of two, state limit {limit}"), &draft, expect)
     };
-    // A is 31 / 32; each of its terms would be 1.
+    // Y is 1 + 1, 1 for 0.75, and A 31 × 2 / 32, which is 2; each of its terms would be 1.
     let all = |limit: i64, expect| {
-        let draft = all_coupled(16).with(LOW, &[1; 16]).with(HIGH, &[1; 16]).with(GAIN, &[32; 16]);
+        let draft = all_coupled(16).with(LOW, &[0; 16]).with(HIGH, &[1; 16]).with(GAIN, &[32; 16]);
         headroom(&format!("A of sixteen, state limit {limit}"), &draft.with(STATE_LIMIT, &[limit]), expect)
     };
     vec![
@@ -198,12 +198,12 @@ fn headroom_once() -> Vec<Case> {
         b("a half of each part and a sixteenth", &[(16, 116), (8, 1)], &[(9, 1)], Refused(12)),
         b("sixteen sixteenths", &eleven, &[(1, 1), (1, 1), (-1, 1), (1, 2)], Accepted),
         b("seventeen sixteenths", &eleven, &[(1, 1), (1, 1), (-1, 1), (1, 3)], Refused(12)),
-        a([(1, 1), (2, 2)], [16, 0], 126, Accepted),
-        a([(1, 1), (2, 2)], [16, 0], 127, Refused(12)),
-        a([(2, 2), (1, 1)], [0, 16], 126, Accepted),
-        a([(2, 2), (1, 1)], [0, 16], 127, Refused(12)),
-        all(126, Accepted),
-        all(127, Refused(12)),
+        a([(0, 2), (0, 1)], [16, 0], 125, Accepted),
+        a([(0, 2), (0, 1)], [16, 0], 126, Refused(12)),
+        a([(-1, 0), (-2, 0)], [0, 16], 125, Accepted),
+        a([(-1, 0), (-2, 0)], [0, 16], 126, Refused(12)),
+        all(125, Accepted),
+        all(126, Refused(12)),
     ]
 }
 
@@ -211,16 +211,16 @@ fn headroom_once() -> Vec<Case> {
 fn headroom_twice() -> Vec<Case> {
     // A is 8 × 1 / 16 and so 1, which leaves 126 × 16 = 2016 for B; in one sum with A it would be 2032 − 8 = 2024.
     let half = |name: &str, states: &[Input], targets: &[Input], expect| {
-        headroom(&format!("A is 0.5, {name}"), &with_inputs(states, targets).with(LOW, &[1]).with(HIGH, &[1]), expect)
+        headroom(&format!("A is 0.5, {name}"), &with_inputs(states, targets).with(LOW, &[0]).with(HIGH, &[1]), expect)
     };
     // A is 0, which leaves 127 × 16 = 2032.
     let none = |name: &str, states: &[Input], targets: &[Input], expect| {
         headroom(&format!("A is 0, {name}"), &without_a(with_inputs(states, targets)), expect)
     };
-    // M is 15 and Y 14 + 0.5, rounded up: A is 15 × 15 / 16 = 14.0625 and so 15. With Y 14.5 it would be 14.
+    // M is 15 and Y 9 + 4.5, rounded up: A is 15 × 14 / 16 = 13.125 and so 14. With Y 13.5 it would be 13.
     let y = |limit: i64, expect| {
         let draft = with_inputs(&[(16, limit)], &[]).with(COST, &[1]).with(MOMENTUM, &[8]);
-        headroom(&format!("Y is 14.5, state limit {limit}"), &draft.with(LOW, &[13]).with(HIGH, &[14]), expect)
+        headroom(&format!("Y is 13.5, state limit {limit}"), &draft.with(LOW, &[0]).with(HIGH, &[9]), expect)
     };
     vec![
         half("B 65 × 31", &[(65, 31)], &[], Accepted),
@@ -233,8 +233,8 @@ fn headroom_twice() -> Vec<Case> {
         none("B 2032 of three", &[(16, 126), (15, 1), (1, 1)], &[], Accepted),
         none("B 2032 with targets", &[(16, 126)], &[(15, 1), (1, 1)], Accepted),
         none("B 2033 with targets", &[(16, 126)], &[(15, 1), (2, 1)], Refused(12)),
-        y(112, Accepted),
-        y(113, Refused(12)),
+        y(113, Accepted),
+        y(114, Refused(12)),
     ]
 }
 
