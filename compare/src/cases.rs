@@ -191,7 +191,7 @@ fn of_document_01() -> Vec<Case> {
         case("* H (9,8),(8,9)", &two_steps(9, 8), &[10], Refused(10)),
         case("* H (8,7),(7,8), β 9", &two_steps(8, 7).with(MOMENTUM, &[9]), &[10], Refused(11)),
         case("* H (8,7),(7,8), β 10", &two_steps(8, 7).with(MOMENTUM, &[10]), &[10], Accepted),
-        // The 1 that it is makes S 17 by request 6; that it is no more is seen beside a high of 1.
+        // As a low it is 1 count, so S is 17; were it 2, it would be 7 beside a high of 1.
         with_doubles("* low limit 0.03125", &s(), &[(LOW, half)], Refused(17)),
         with_doubles("low limit 0.03125, high 0.0625", &s(), &[(LOW, half), (HIGH, 2.0 * half)], Refused(17)),
         with_doubles("* high limit 0.03125", &s(), &[(HIGH, half)], Words(HIGH, vec![0])),

@@ -193,13 +193,13 @@ table =
     ∷ numbers (varying 0 (pos 0) (pos 5)) 0
     ∷ numbers (varying 0 (negsuc 4) (pos 0)) 0
     ∷ numbers (varying 0 (pos 0) (pos 0)) 0
-    -- 7 comes before, also for document 01's low of 1 with a high of 0; 8 and 13 come behind
+    -- 7 comes before, so document 01's low of 1 with a high of 0 stays 7; 8 and 13 come behind
     ∷ numbers (limited (pos 1) (pos 0)) 7
     ∷ numbers (skewed (pos 1) (pos 5)) 17
     ∷ numbers (skewed (pos 0) (pos 5)) 8
     ∷ answers (limited (pos 1) (pos 20)) (pos 11) [] 17
     ∷ answers (limited (pos 0) (pos 20)) (pos 10) [] 0
-    -- a one-sided step 1, from zeros: it stays at its limit of 0, and with the state's other sign goes to 5, and its bound to w
+    -- a one-sided step 1, from zeros: it stays at its low of 0; with a high of 2 and the state's other sign it goes to 2, and its bound to w
     ∷ solves (varying 0 (pos 0) (pos 5)) (pos 10) [] 3 (negsuc 17 ∷ pos 0 ∷ []) (3 ∷ 3 ∷ [])
     ∷ solves (varying 0 (pos 0) (pos 2)) (negsuc 9) [] 3 (pos 17 ∷ pos 2 ∷ []) (3 ∷ 2 ∷ [])
     -- S with a low limit of 0.03125, rounded up to 1, and of −0.03125, rounded up to 0; a high of −0.03125, rounded down to −1

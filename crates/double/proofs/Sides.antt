@@ -1,6 +1,6 @@
 -- Rounding inward takes no limit across zero. Assumes nothing.
 use mathlib.Core.Path.{_≡_, refl, sym, ap, _∙_}
-use mathlib.Core.Bool.{Bool, true, false, not, _&&_}
+use mathlib.Core.Bool.{Bool, true, false, not}
 use Prim.Native.Nat.{ℕ, zero, suc, _*_, _/_, _^_, _<_}
 use native.Mathlib.Nat.{add-zero, mul-one, mul-pos, zero-mul}
 use native.Mathlib.Omega.{arith}
@@ -11,11 +11,9 @@ use lib.Pow.{pow-pos}
 use lib.Signed.{leZ}
 use borrow.Author.Tests.{le-leb, lt-leb, lt-ltb, le-ltb}
 use Rattle.integer.specs.Round.{floor}
-use Rattle.integer.proofs.Tests.{of-true, both}
-use Rattle.word.specs.Format.{isFormat, inWord}
-use Rattle.double.specs.Double.{signed, scalable, rounded, accepted, roundUp, roundDown, acceptedLimits}
-use Rattle.double.specs.declared.Limits.{Limits}
-use Rattle.double.specs.Sides.{plusZero, KeepsSides}
+use Rattle.integer.proofs.Tests.{of-true}
+use Rattle.double.specs.Double.{signed, scalable, rounded, roundUp, roundDown}
+use Rattle.double.specs.Sides.{plusZero, LowKeepsSide, HighKeepsSide}
 
 -- ---- of a fraction
 not-above : (n : ℕ) → leZ (negℤ (pos n)) (pos 0) ≡ true
@@ -55,25 +53,15 @@ module _ (b m : ℕ) (e : ℤ) where
   high-side false =
       rw (zero-mul (down e)) (le-leb 0 (m * up e * 2 ^ b) (omega arith) ∙ ap not (sym (le-ltb (m * up e * 1) 0 (omega arith))))
 
--- ---- of limits that have words
-low-kept : (b : ℕ) (x : Float) → scalable b x ≡ true → leZ (rounded roundUp b x) (pos 0) ≡ not (lt plusZero x)
+-- ---- of a limit that can be scaled
+pub low-keeps-side : (b : ℕ) (x : Float) → scalable b x ≡ true → LowKeepsSide b x
 unfolding scalable rounded
-low-kept b nan h = absurd (of-true h)
-low-kept b (inf s) h = absurd (of-true h)
-low-kept b (fin s m e) h = up-side (signed s (m * up e * 2 ^ b)) (down e) ∙ low-side b m e s
+low-keeps-side b nan h = absurd (of-true h)
+low-keeps-side b (inf s) h = absurd (of-true h)
+low-keeps-side b (fin s m e) h = up-side (signed s (m * up e * 2 ^ b)) (down e) ∙ low-side b m e s
 
-high-kept : (b : ℕ) (x : Float) → scalable b x ≡ true → leZ (pos 0) (rounded roundDown b x) ≡ not (lt x plusZero)
+pub high-keeps-side : (b : ℕ) (x : Float) → scalable b x ≡ true → HighKeepsSide b x
 unfolding scalable rounded
-high-kept b nan h = absurd (of-true h)
-high-kept b (inf s) h = absurd (of-true h)
-high-kept b (fin s m e) h = down-side (signed s (m * up e * 2 ^ b)) (down e) ∙ high-side b m e s
-
-has-number : (rule : ℤ → ℕ → ℤ) (b w : ℕ) (x : Float) → accepted rule b w x ≡ true → scalable b x ≡ true
-unfolding accepted
-has-number rule b w x h =
-    both (isFormat b w) (scalable b x) (both (isFormat b w && scalable b x) (inWord w (rounded rule b x)) h .0) .1
-
-pub keeps-sides : (b w : ℕ) (l : Limits) → acceptedLimits b w l ≡ true → KeepsSides b l
-keeps-sides b w l h =
-    let a = both (accepted roundUp b w (l .low)) (accepted roundDown b w (l .high)) h in
-    record { low = low-kept b (l .low) (has-number roundUp b w (l .low) (a .0)); high = high-kept b (l .high) (has-number roundDown b w (l .high) (a .1)) }
+high-keeps-side b nan h = absurd (of-true h)
+high-keeps-side b (inf s) h = absurd (of-true h)
+high-keeps-side b (fin s m e) h = down-side (signed s (m * up e * 2 ^ b)) (down e) ∙ high-side b m e s

@@ -98,7 +98,7 @@ more-steps sheet state target room h more = record {
   label = rw (sheet-two sheet h more);
 }
 
--- the images that had the length of their sizes, so those that were accepted
+-- the images that passed 6, 3 and 6, so those that were accepted
 pub more-steps-calls : (image state target start : List ℕ) (room : ℕ) → former.headNumber image ≡ 0 → 1 < sizesOf image .steps → NowSix image state target start room
 unfolding former.headNumber imageNumber headNumber coldNumber solveNumber
 more-steps-calls image state target start room h more =

@@ -1,6 +1,6 @@
 -- The definitions as they stood before request 3, "Limits that change along the horizon": those that differ, each with the name and the
--- text that it had, and those that are over them. All else is cited, the arithmetic of today and its cold start with it, and 17 stands in
--- its place. A sheet had nu lines of kind 04 and nu of kind 05, row the motor, column 0, and an image nu lows and nu highs. Definitions only.
+-- text that it had, and those that are over them. All else is cited, the arithmetic of today and its cold start with it, and 17 is
+-- tested between 7 and 8 as today. A sheet had nu lines of kind 04 and nu of kind 05, row the motor, column 0, and an image nu lows and nu highs. Definitions only.
 use Prim.Native.Nat.{ℕ, _+_, _-_, _*_, _%_, _^_}
 use mathlib.Core.Bool.{Bool, cond, _&&_}
 use mathlib.Core.List.{List, [], _∷_, _++_, map}

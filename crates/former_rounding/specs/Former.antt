@@ -1,5 +1,5 @@
 -- The definitions as they stood before request 4, "Rounding once per sum": those that differ, each with the name and the text that it had, and
--- those that are over them. All else is cited, and 17 stands in its place. Each product of a row was rounded before the sum, each term of A and
+-- those that are over them. All else is cited, and 17 is tested between 7 and 8 as today. Each product of a row was rounded before the sum, each term of A and
 -- of B was rounded up, and c was the larger of n and nx + nr. Definitions only.
 use mathlib.Core.Bool.{Bool}
 use mathlib.Core.List.{List, [], _∷_, _++_, map}

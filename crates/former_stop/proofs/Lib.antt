@@ -1,3 +1,4 @@
 -- The laws that docs cite.
 pub mod Numbers
+pub mod Sheets
 pub mod Start

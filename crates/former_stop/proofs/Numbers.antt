@@ -24,15 +24,15 @@ use Rattle.former_stop.specs.Stopped.{canStop, comesBefore, withStop, Ta
 
 -- ---- numbers before 17, and behind it
 -- a number that comes before 17, or none
-early : (t : Bool) (k r : ℕ) → k ≤ 7 → r ≤ 7 → cond t r k ≤ 7
+pub early : (t : Bool) (k r : ℕ) → k ≤ 7 → r ≤ 7 → cond t r k ≤ 7
 early true k r h l = l
 early false k r h l = h
 
 -- a number that comes behind 17, or none
-abbrev Late : ℕ → Type 0
+abbrev pub Late : ℕ → Type 0
 Late r = comesBefore r ≡ false
 
-late : (t : Bool) (k r : ℕ) → Late k → Late r → Late (cond t r k)
+pub late : (t : Bool) (k r : ℕ) → Late k → Late r → Late (cond t r k)
 late true k r h l = l
 late false k r h l = h
 
@@ -47,8 +47,8 @@ late-all (c ∷ cs) e =
 pub tables-now : (z : Sizes) (s : List ℕ) → TablesNow z s
 unfolding tablesNumber former.tablesNumber every
 tables-now z s =
-    let behind = drop 2 (tableChecks z s) in
-    by (allTo (orderTest z s) (commandCount z)) (canStop z s) (firstFault behind) (late-all behind refl)
+    let rest = drop 2 (tableChecks z s) in
+    by (allTo (orderTest z s) (commandCount z)) (canStop z s) (firstFault rest) (late-all rest refl)
   where
     by : (ordered stops : Bool) (r : ℕ) → Late r → cond ordered (cond stops r 17) 7 ≡ withStop stops (cond ordered r 7)
     by true true r h = refl
@@ -62,7 +62,7 @@ stays true a h l = refl
 stays false zero h l = absurd (h refl)
 stays false (suc a) h l = rw (le-leb 1 (suc a) (omega arith), le-leb (suc a) 7 l) refl
 
-before : (a now was : ℕ) (b : Bool) → a ≤ 7 → now ≡ withStop b was → orElse a now ≡ withStop b (orElse a was)
+pub before : (a now was : ℕ) (b : Bool) → a ≤ 7 → now ≡ withStop b was → orElse a now ≡ withStop b (orElse a was)
 before a now was b h e = by (eqb a 0) refl
   where
     by : (t : Bool) → eqb a 0 ≡ t → cond t now a ≡ withStop b (cond t was a)
@@ -70,7 +70,7 @@ before a now was b h e = by (eqb a 0) refl
     by false q = stays b a (eqb-false a 0 q) h
 
 -- ---- and one that is tested behind them is 17 where a command cannot stop
-behind : (was c : ℕ) (b : Bool) → Late c → orElse (withStop b was) c ≡ withStop b (orElse was c)
+pub behind : (was c : ℕ) (b : Bool) → Late c → orElse (withStop b was) c ≡ withStop b (orElse was c)
 behind was c true h = refl
 behind was c false h = by (eqb was 0) (comesBefore was) refl refl
   where

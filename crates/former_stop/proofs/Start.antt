@@ -24,7 +24,9 @@ nearest-zero (r ∷ l) (cons2 h t) = rw (clamp-inside (h .above) (h .below), nea
 
 pub same-start : (image : List ℕ) → canStop (sizesOf image) image ≡ true → SameStart image
 unfolding coldAnswer former.coldAnswer coldStart former.coldStart problemOf
-same-start image e = ap wordsOut (nearest-zero (problemOf image .commands) (start-all (problemOf image) (coldStart (problemOf image)) (of-true (sym (stops-exactly (sizesOf image) image) ∙ e))))
+same-start image e =
+    let p = problemOf image in
+    ap wordsOut (nearest-zero (p .commands) (start-all p (coldStart p) (of-true (sym (stops-exactly (sizesOf image) image) ∙ e))))
 
 -- "the cold start is then all zeros": for every accepted image the former definition gives them
 pub accepted-start : (image : List ℕ) → imageNumber image ≡ 0 → SameStart image

@@ -2,8 +2,9 @@
 -- those that are over them. All else is cited. There was no 17, and a cold start had for each command the value within its limits nearest
 -- zero. Definitions only.
 use mathlib.Core.List.{List, [], _∷_, map}
-use Prim.Native.Nat.{ℕ, zero}
+use Prim.Native.Nat.{ℕ, zero, _*_}
 use lib.IntN.{ℤ, pos}
+use lib.ListN.{length}
 use Rattle.integer.specs.Round.{clamp}
 use Rattle.word.specs.Word.{wordsOut}
 use Rattle.gradient.specs.Index.{allTo}
@@ -15,6 +16,9 @@ use Rattle.image.specs.Layout.{sizesOf, problemOf}
 use Rattle.image.specs.Checks.{headNumber, bodyNumber}
 use Rattle.interface.specs.Tables.{orderTest, symmetryTest, marginTest, totalTest, momentumRange, momentumRatio, pointTest, rowTest}
 use Rattle.interface.specs.Calls.{coldCallNumber, callNumber}
+use Rattle.sheet.specs.Sheet.{sheetNumber, sheetImage}
+use Rattle.intake.specs.Intake.{bufferNumber}
+use Rattle.design_page.specs.Page.{designCount}
 
 -- ---- gradient: the cold start
 unfoldable pub coldStart : Problem → List ℤ
@@ -46,3 +50,16 @@ coldAnswer image = wordsOut (coldStart (problemOf image))
 
 unfoldable pub solveNumber : List ℕ → List ℕ → List ℕ → List ℕ → ℕ → ℕ
 solveNumber image state target start room = orElse (imageNumber image) (callNumber image state target start room)
+
+-- ---- intake, design_page: the calls on a sheet
+abbrev pub ownTables : List ℕ → ℕ
+ownTables image = tablesNumber (sizesOf image) image
+
+unfoldable pub designNumber : List ℕ → ℕ
+designNumber sheet = orElse (sheetNumber sheet) (ownTables (sheetImage sheet))
+
+unfoldable pub intakeNumber : List ℕ → ℕ → ℕ
+intakeNumber sheet room = orElse (designNumber sheet) (bufferNumber (length (sheetImage sheet)) room)
+
+unfoldable pub pageNumber : List ℕ → ℕ → ℕ
+pageNumber sheet room = orElse (designNumber sheet) (bufferNumber (44 * designCount sheet) room)

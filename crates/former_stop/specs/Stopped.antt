@@ -11,6 +11,9 @@ use Rattle.image.specs.Sizes.{commandCount}
 use Rattle.image.specs.Layout.{sizesOf}
 use Rattle.interface.specs.Tables.{stopTest, tablesNumber, imageNumber}
 use Rattle.interface.specs.Calls.{coldNumber, coldAnswer, solveNumber}
+use Rattle.sheet.specs.Sheet.{sheetImage}
+use Rattle.intake.specs.Intake.{intakeNumber}
+use Rattle.design_page.specs.Page.{pageNumber}
 use Rattle.former_stop.specs.Former as former
 
 -- no command has a "low above 0" or a "high below 0"
@@ -25,7 +28,7 @@ comesBefore was = leb 1 was && leb was 7
 abbrev pub withStop : Bool → ℕ → ℕ
 withStop stops was = cond stops was (cond (comesBefore was) was 17)
 
--- of the tables, by which sheets and images are tested
+-- of the tables
 abbrev pub TablesNow : Sizes → List ℕ → Type 0
 TablesNow z s = tablesNumber z s ≡ withStop (canStop z s) (former.tablesNumber z s)
 
@@ -34,6 +37,11 @@ pub record CallsNow (image state target start : List ℕ) (room : ℕ) : Type 0 
   pub image-number : imageNumber image ≡ withStop (canStop (sizesOf image) image) (former.imageNumber image)
   pub cold-number : coldNumber image room ≡ withStop (canStop (sizesOf image) image) (former.coldNumber image room)
   pub number : solveNumber image state target start room ≡ withStop (canStop (sizesOf image) image) (former.solveNumber image state target start room)
+
+-- of a sheet's intake and of its page
+pub record SheetNow (sheet : List ℕ) (room : ℕ) : Type 0 where
+  pub number : intakeNumber sheet room ≡ withStop (canStop (sizesOf (sheetImage sheet)) (sheetImage sheet)) (former.intakeNumber sheet room)
+  pub page-number : pageNumber sheet room ≡ withStop (canStop (sizesOf (sheetImage sheet)) (sheetImage sheet)) (former.pageNumber sheet room)
 
 -- the zeros are what the cold start was
 abbrev pub SameStart : List ℕ → Type 0

@@ -15,6 +15,7 @@ use Rattle.double.proofs.Back.{round-trip}
 use Rattle.double.proofs.Convert.{convert-word}
 use Rattle.double.proofs.Rules.{is-rule}
 use Rattle.image.specs.declared.Sizes.{Sizes}
+use Rattle.image.proofs.Ordering.{both}
 use Rattle.line.specs.declared.Line.{Line}
 use Rattle.line.specs.declared.Line.the-variants.{Frame, Malformed, End}
 use Rattle.frame.specs.declared.Due.{Due}
@@ -69,7 +70,14 @@ module _ (z : Sizes) (kind : ℕ) (x : Float) where
   unfolding wordOf
   limit-in e = rw e (not-negative (convert rule (z .b) (z .w) x))
 
-  -- and the rounding of the double by its kind
+  -- its double is "neither NaN, infinity" nor does scaling overflow
+  pub word-scalable : (v : ℤ) → wordOf z kind x ≡ Word v → scalable (z .b) x ≡ true
+  unfolding wordOf accepted
+  word-scalable v e =
+      let a = convert-word rule (z .b) (z .w) x (not-below-word (isInputLimit kind) (convert rule (z .b) (z .w) x) v e) .0 in
+      both (isFormat (z .b) (z .w)) (scalable (z .b) x) (both (isFormat (z .b) (z .w) && scalable (z .b) x) (inWord (z .w) (rounded rule (z .b) x)) a .0) .1
+
+  -- and it is the rounding of the double by its kind
   pub word-rounded : (v : ℤ) → wordOf z kind x ≡ Word v → v ≡ rounded rule (z .b) x
   unfolding wordOf
   word-rounded v e = convert-word rule (z .b) (z .w) x (not-below-word (isInputLimit kind) (convert rule (z .b) (z .w) x) v e) .1

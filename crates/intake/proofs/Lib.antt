@@ -1,3 +1,4 @@
 -- The laws that other crates cite.
 pub mod Call
 pub mod Laws
+pub mod Stop

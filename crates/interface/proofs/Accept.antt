@@ -140,7 +140,7 @@ module _ (z : Sizes) (s : List ℕ) where
       commands-length n (λ (k : ℕ). leZ (lowerAt z s k) (f k) && leZ (f k) (upperAt z s k))
       (λ k l. rw (command-at (commandAt z s 0) k l, e k l))
 
-  -- 17 passes exactly where a start of all zeros passes 14
+  -- 17 passes exactly where all zeros are within the limits
   pub stops-exactly : StopsExactly z s
   stops-exactly =
       let p = problemAt z s in

@@ -16,7 +16,8 @@ use Rattle.image.specs.Layout.{sizesOf, commandAt, problemAt, problemOf}
 use Rattle.interface.specs.Tables.{stopTest, pointTest}
 use Rattle.interface.specs.Calls.{startOf, coldAnswer}
 
--- "a drive must always be able to command zero", "zero at a limit is allowed": 17 passes exactly where a start of all zeros passes 14
+-- "a drive must always be able to command zero", "zero at a limit is allowed": 17 passes exactly where all zeros are within the limits, as
+-- 14 asks of a start
 abbrev pub StopsExactly : Sizes → List ℕ → Type 0
 StopsExactly z s = allTo (stopTest z s) (commandCount z) ≡ startWithin (problemAt z s) (coldStart (problemAt z s))
 

@@ -106,6 +106,7 @@ tableChecks z s =
     ∷ check 12 (allTo (rowTest z s) n)
     ∷ []
 
+-- the number of the first that fails
 unfoldable pub tablesNumber : Sizes → List ℕ → ℕ
 tablesNumber z s = firstFault (tableChecks z s)
 

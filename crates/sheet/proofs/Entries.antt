@@ -12,7 +12,7 @@ use lib.ListN.{length}
 use borrow.Author.Tests.{eqb-true, leb-true}
 use Rattle.word.specs.Word.{wordAt}
 use Rattle.hex.specs.Hex.{hexAt}
-use Rattle.double.specs.Double.{rounded, ruleOf}
+use Rattle.double.specs.Double.{scalable, rounded, ruleOf}
 use Rattle.image.specs.Order.{orElse}
 use Rattle.image.specs.Sizes.{bodyCount, Sound}
 use Rattle.image.specs.Layout.{sizesOf}
@@ -26,7 +26,7 @@ use Rattle.frame.specs.declared.Value.the-variants.{Double, Fault}
 use Rattle.frame.specs.Frame.{dueAt, frameSizes, isDue, roundingOf, total, valueDouble, valueNumber, valueOf}
 use Rattle.frame.proofs.Sized.{differ, head-sizes, head-sound}
 use Rattle.frame.proofs.Laws.{total-is}
-use Rattle.frame.proofs.Word.{due-double, word-rounded}
+use Rattle.frame.proofs.Word.{due-double, word-rounded, word-scalable}
 use Rattle.lines.specs.Lines.{lineDouble, lineFault, lineValue, lineWord}
 use Rattle.lines.proofs.Step.{fault-none, passed-word}
 use Rattle.sheet.specs.Laws.{Rounded}
@@ -81,11 +81,16 @@ module _ (z : Sizes) (s : List ℕ) (i : ℕ) (f : lineFault z s i ≡ 0) where
   unfolding lineFault lineWord
   line-rounded = word-rounded z (dueAt z i .kind) (lineDouble z s i) _ (passed-word z s i (lineValue z s i) refl f)
 
+  line-scales : scalable (z .b) (lineDouble z s i) ≡ true
+  unfolding lineFault lineWord
+  line-scales = word-scalable z (dueAt z i .kind) (lineDouble z s i) _ (passed-word z s i (lineValue z s i) refl f)
+
   pub line-facts : wordAt (sheetImage s) (4 * (8 + i)) ≡ lineWord z s i → Rounded z s i
   line-facts w = record {
     kind = kind-due;
     row = row-due;
     column = column-due;
+    scales = ap (scalable (z .b)) (sym (line-due .1)) ∙ line-scales;
     word = w ∙ line-rounded ∙ ap (rounded (ruleOf (roundingOf (dueAt z i .kind))) (z .b)) (line-due .1);
   }
 

@@ -22,6 +22,7 @@ limit-line z s i kind motor step e r = record {
   kind-is = r .kind ∙ ap (λ (d : Due). d .kind) e;
   motor-is = r .row ∙ ap (λ (d : Due). d .row) e;
   step-is = r .column ∙ ap (λ (d : Due). d .column) e;
+  scales = r .scales;
   word-is = rw (ap (λ (d : Due). d .kind) e) at (r .word);
 }
 

@@ -1,12 +1,13 @@
 -- What the laws of a sheet state. Definitions only.
 use Prim.Native.Nat.{ℕ, _+_, _*_, _/_, _%_}
 use mathlib.Core.Path.{_≡_}
+use mathlib.Core.Bool.{true}
 use mathlib.Core.List.{List}
 use lib.IntN.{ℤ}
-use lib.Ieee.{binary64, ofBits}
+use lib.Ieee.{Float, binary64, ofBits}
 use Rattle.word.specs.Word.{wordAt}
 use Rattle.hex.specs.Hex.{hexAt}
-use Rattle.double.specs.Double.{rounded, ruleOf, roundUp, roundDown}
+use Rattle.double.specs.Double.{scalable, rounded, ruleOf, roundUp, roundDown}
 use Rattle.image.specs.declared.Sizes.{Sizes}
 use Rattle.image.specs.Sizes.{commandCount}
 use Rattle.image.specs.Layout.{lowerAt, upperAt}
@@ -18,21 +19,27 @@ use Rattle.sheet.specs.Sheet.{sheetImage}
 
 -- ---- a line and its word
 
--- line i after line 01 is the one due, and word 8 + i of the image is its double "scaled by 2^b .. and then rounded"
+-- the double that line i after line 01 gives
+abbrev pub doubleAt : List ℕ → ℕ → Float
+doubleAt s i = ofBits binary64 (hexAt 16 s (23 * (i + 1) + 6))
+
+-- line i after line 01 is the one due, its double can be scaled, and word 8 + i of the image is that double "scaled by 2^b .. and then rounded"
 pub record Rounded (z : Sizes) (s : List ℕ) (i : ℕ) : Type 0 where
   pub kind : hexAt 2 s (23 * (i + 1)) ≡ dueAt z i .kind
   pub row : hexAt 2 s (23 * (i + 1) + 2) ≡ dueAt z i .row
   pub column : hexAt 2 s (23 * (i + 1) + 4) ≡ dueAt z i .column
-  pub word : wordAt (sheetImage s) (4 * (8 + i)) ≡ rounded (ruleOf (roundingOf (dueAt z i .kind))) (z .b) (ofBits binary64 (hexAt 16 s (23 * (i + 1) + 6)))
+  pub scales : scalable (z .b) (doubleAt s i) ≡ true
+  pub word : wordAt (sheetImage s) (4 * (8 + i)) ≡ rounded (ruleOf (roundingOf (dueAt z i .kind))) (z .b) (doubleAt s i)
 
 -- ---- the limits of a command
 
--- line i after line 01 is of a kind, a motor and a step, and v is its double rounded by a rule
+-- line i after line 01 is of a kind, a motor and a step, its double can be scaled, and v is that double rounded by a rule
 pub record LimitLine (z : Sizes) (s : List ℕ) (i kind motor step : ℕ) (rule : ℤ → ℕ → ℤ) (v : ℤ) : Type 0 where
   pub kind-is : hexAt 2 s (23 * (i + 1)) ≡ kind
   pub motor-is : hexAt 2 s (23 * (i + 1) + 2) ≡ motor
   pub step-is : hexAt 2 s (23 * (i + 1) + 4) ≡ step
-  pub word-is : v ≡ rounded rule (z .b) (ofBits binary64 (hexAt 16 s (23 * (i + 1) + 6)))
+  pub scales : scalable (z .b) (doubleAt s i) ≡ true
+  pub word-is : v ≡ rounded rule (z .b) (doubleAt s i)
 
 -- "each command has the limits of its own step": command k of the image has those that the sheet gives motor k mod nu at step k / nu
 pub record OwnLimits (z : Sizes) (s : List ℕ) (k : ℕ) : Type 0 where
