@@ -1,4 +1,4 @@
--- What contracts cite.
+-- What contracts and laws cite.
 pub mod Double
 pub mod Examples
 pub mod Sides

@@ -70,9 +70,9 @@ before a now was b h e = by (eqb a 0) refl
     by false q = stays b a (eqb-false a 0 q) h
 
 -- ---- and one that is tested behind them is 17 where a command cannot stop
-pub behind : (was c : ℕ) (b : Bool) → Late c → orElse (withStop b was) c ≡ withStop b (orElse was c)
-behind was c true h = refl
-behind was c false h = by (eqb was 0) (comesBefore was) refl refl
+pub behind : (now was c : ℕ) (b : Bool) → Late c → now ≡ withStop b was → orElse now c ≡ withStop b (orElse was c)
+behind now was c true h e = ap (λ (k : ℕ). orElse k c) e
+behind now was c false h e = ap (λ (k : ℕ). orElse k c) e ∙ by (eqb was 0) (comesBefore was) refl refl
   where
     by : (t u : Bool) → eqb was 0 ≡ t → comesBefore was ≡ u → orElse (cond u was 17) c ≡ withStop false (cond t c was)
     by true u q r = rw (sym r, eqb-true was 0 q, h) refl
@@ -103,7 +103,7 @@ module _ (image : List ℕ) where
 
   -- after the image's number another, of 13 to 16
   after : (c : ℕ) → Late c → orElse (imageNumber image) c ≡ withStop (canStop z image) (orElse (former.imageNumber image) c)
-  after c h = ap (λ (k : ℕ). orElse k c) image-now ∙ behind (former.imageNumber image) c (canStop z image) h
+  after c h = behind (imageNumber image) (former.imageNumber image) c (canStop z image) h image-now
 
 call-late : (image state target start : List ℕ) (room : ℕ) → Late (callNumber image state target start room)
 unfolding callNumber

@@ -1,5 +1,5 @@
 -- The same of the calls on a sheet: the numbers of lines and end come before 17, and 15 behind it. Assumes nothing.
-use mathlib.Core.Path.{_≡_, refl, ap, _∙_}
+use mathlib.Core.Path.{_≡_, refl}
 use mathlib.Core.Bool.{Bool, true, false, cond, _&&_}
 use mathlib.Core.List.{List}
 use Prim.Native.Nat.{ℕ, zero, suc, _+_, _*_, _≤_}
@@ -74,8 +74,7 @@ module _ (s : List ℕ) where
   design-now = before (sheetNumber s) _ _ stops (sheet-early s) (tables-now (sizesOf (sheetImage s)) (sheetImage s))
 
   room-now : (size room : ℕ) → orElse (designNumber s) (bufferNumber size room) ≡ withStop stops (orElse (former.designNumber s) (bufferNumber size room))
-  room-now size room =
-      ap (λ (k : ℕ). orElse k (bufferNumber size room)) design-now ∙ behind (former.designNumber s) (bufferNumber size room) stops (late (eqb room size) 15 0 refl refl)
+  room-now size room = behind (designNumber s) (former.designNumber s) (bufferNumber size room) stops (late (eqb room size) 15 0 refl refl) design-now
 
   pub sheet-now : (room : ℕ) → SheetNow s room
   unfolding intakeNumber former.intakeNumber pageNumber former.pageNumber

@@ -1,4 +1,4 @@
--- What acceptance says, as facts that the code of a solve requires. Assumes nothing.
+-- What acceptance says, as facts that the code of a solve and the law of a cold start ask for. Assumes nothing.
 use mathlib.Core.List.{List}
 use mathlib.Core.Path.{_≡_}
 use Prim.Native.Nat.{ℕ, _*_}
