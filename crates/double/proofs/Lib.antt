@@ -1,7 +1,10 @@
 -- The laws that other crates cite, and those that several functions' proofs cite.
+pub mod Nearest
 pub mod Rules
 pub mod Value
 pub mod Scale
+pub mod Edge
+pub mod Steps
 pub mod Convert
 pub mod Back
 pub mod Same

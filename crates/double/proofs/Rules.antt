@@ -1,4 +1,5 @@
--- What a rounding rule of a fraction z / d has to be for the laws of a conversion (`IsRule`), that both rules are one, and what each means.
+-- What a rounding rule of a fraction z / d has to be for the laws of a conversion (`IsRule`), that each rule is one, and what down and up mean;
+-- `Nearest.antt` has what nearest means.
 -- Another rule joins by a proof that it is one. Assumes nothing.
 use mathlib.Core.Path.{_≡_, refl, sym, ap, _∙_, subst}
 use Prim.Native.Nat.{ℕ, _+_, _*_, _≤_, _<_}
@@ -8,12 +9,13 @@ use lib.IntN.{ℤ, pos, negsuc, negℤ, natAbs, _+ℤ_, _-ℤ_, _*ℤ_, negℤ-n
 use lib.Signed.{_≤ℤ_, _<ℤ_}
 use Rattle.integer.specs.Parts.{up, dn, int, nat, _⊕_, _⊖_, _⊡_, neg}
 use Rattle.integer.specs.Round.{floor}
-use Rattle.integer.proofs.Parts.{le!, lt!, eq?, le?, lt?, abs-parts}
+use Rattle.integer.proofs.Parts.{le!, lt!, eq?, le?, lt?, abs!, abs?, abs-parts}
 use Rattle.integer.proofs.Laws.{neg-mul, ≤ℤ-antisym, ≤ℤ-of-≡}
 use Rattle.integer.proofs.Floor.{floor-lower, floor-upper, floor-le, floor-gt, floor-unique, floor-mono, floor-exact}
-use Rattle.double.specs.Double.{roundDown, roundUp, ruleOf}
+use Rattle.double.specs.Double.{roundDown, roundUp, roundNearest, ruleOf}
 use Rattle.double.specs.declared.Rounding.{Rounding}
-use Rattle.double.specs.declared.Rounding.the-variants.{Down, Up}
+use Rattle.double.specs.declared.Rounding.the-variants.{Down, Up, Nearest}
+use Rattle.double.proofs.Nearest.{nearest-same, nearest-not-below, nearest-not-above}
 
 -- ---- what each rule means: z / d - 1 < down ≤ z / d ≤ up < z / d + 1
 pub down-lower : (z : ℤ) {d : ℕ} → 0 < d → (roundDown z d *ℤ pos d) ≤ℤ z
@@ -69,11 +71,15 @@ up-rule = record {
       subst (λ (k : ℤ). roundUp z d ≤ℤ k) (negℤ-negℤ n) (neg-le (down-rule .not-below (negℤ n) (negℤ z) D (subst (λ (k : ℤ). k ≤ℤ negℤ z) (sym (neg-mul n (pos d))) (neg-le h))));
 }
 
+pub nearest-rule : IsRule roundNearest
+nearest-rule = record { same = nearest-same; not-below = nearest-not-below; not-above = nearest-not-above }
+
 pub is-rule : (how : Rounding) → IsRule (ruleOf how)
 is-rule Down = down-rule
 is-rule Up = up-rule
+is-rule Nearest = nearest-rule
 
--- ---- every rule keeps an integer, and takes no value that is 2^32 or more to one that is less
+-- ---- every rule keeps an integer, takes no value that is k or more to one that is less, and none that is k or less to one that is more
 pub rule-integer : (rule : ℤ → ℕ → ℤ) → IsRule rule → (n : ℤ) {d : ℕ} → 0 < d → rule (n *ℤ pos d) d ≡ n
 rule-integer rule R n D = ≤ℤ-antisym (R .not-above n _ D (≤ℤ-of-≡ refl)) (R .not-below n _ D (≤ℤ-of-≡ refl))
 
@@ -85,18 +91,17 @@ rule-large rule R k (negsuc a) {d} D h =
     let g = le? (int (rule (negsuc a) d)) (neg (nat k)) (R .not-above (negℤ (pos k)) (negsuc a) D (le! (int (negsuc a)) (neg (nat k) ⊡ d) (omega arith))) in
     omega (arith, abs-parts (rule (negsuc a) d))
 
--- ---- a rule by an integer n that is less than 1 away from z / d
+pub rule-small : (rule : ℤ → ℕ → ℤ) → IsRule rule → (k : ℕ) (z : ℤ) {d : ℕ} → 0 < d → natAbs z ≤ k * d → natAbs (rule z d) ≤ k
+rule-small rule R k z {d} D h =
+    let a = abs? (int z) h in
+    let l = le? (neg (nat k)) (int (rule z d)) (R .not-below (negℤ (pos k)) z D (le! (neg (nat k) ⊡ d) (int z) (omega arith))) in
+    let u = le? (int (rule z d)) (nat k) (R .not-above (pos k) z D (le! (int z) (nat k ⊡ d) (omega arith))) in
+    abs! (int (rule z d)) (omega arith) (omega arith)
+
+-- ---- down by an integer n that is less than 1 away from z / d
 pub record Within1 (z n : ℤ) (d : ℕ) : Type 0 where
   pub lower : (n *ℤ pos d) <ℤ (z +ℤ pos d)
   pub upper : z <ℤ (n *ℤ pos d +ℤ pos d)
-
--- the ceiling is the only integer of which `up-lower` and `up-upper` hold
-pub up-unique : (z q : ℤ) {d : ℕ} → 0 < d → z ≤ℤ (q *ℤ pos d) → (q *ℤ pos d) <ℤ (z +ℤ pos d) → roundUp z d ≡ q
-up-unique z q {d} D h k =
-    let a = le? (int z) (int q ⊡ d) h in
-    let b = lt? (int q ⊡ d) (int z ⊕ nat d) k in
-    ap negℤ (floor-unique (negℤ z) (negℤ q) D (le! (neg (int q) ⊡ d) (neg (int z)) (omega arith)) (lt! (neg (int z)) (neg (int q) ⊡ d ⊕ nat d) (omega arith)))
-    ∙ negℤ-negℤ q
 
 module _ (z n : ℤ) {d : ℕ} (D : 0 < d) (k : Within1 z n d) where
   pub down-less : z <ℤ (n *ℤ pos d) → n -ℤ pos 1 ≡ roundDown z d
@@ -108,11 +113,25 @@ module _ (z n : ℤ) {d : ℕ} (D : 0 < d) (k : Within1 z n d) where
   pub down-same : (n *ℤ pos d) ≤ℤ z → n ≡ roundDown z d
   down-same h = sym (floor-unique z n D h (k .upper))
 
-  pub up-more : (n *ℤ pos d) <ℤ z → n +ℤ pos 1 ≡ roundUp z d
-  up-more h =
-      let a = lt? (int n ⊡ d) (int z) h in
-      let b = lt? (int z) (int n ⊡ d ⊕ nat d) (k .upper) in
-      sym (up-unique z (n +ℤ pos 1) D (le! (int z) ((int n ⊕ nat 1) ⊡ d) (omega arith)) (lt! ((int n ⊕ nat 1) ⊡ d) (int z ⊕ nat d) (omega arith)))
+-- ---- up by the floor q: q + 1 where something is left
+module _ (z : ℤ) {d : ℕ} (D : 0 < d) where
+  abbrev q : ℤ
+  q = roundDown z d
 
-  pub up-same : z ≤ℤ (n *ℤ pos d) → n ≡ roundUp z d
-  up-same h = sym (up-unique z n D h (k .lower))
+  -- the ceiling is the only integer of which `up-lower` and `up-upper` hold
+  up-unique : (n : ℤ) → z ≤ℤ (n *ℤ pos d) → (n *ℤ pos d) <ℤ (z +ℤ pos d) → n ≡ roundUp z d
+  up-unique n h k =
+      let a = le? (int z) (int n ⊡ d) h in
+      let b = lt? (int n ⊡ d) (int z ⊕ nat d) k in
+      sym
+      (ap negℤ (floor-unique (negℤ z) (negℤ n) D (le! (neg (int n) ⊡ d) (neg (int z)) (omega arith)) (lt! (neg (int z)) (neg (int n) ⊡ d ⊕ nat d) (omega arith)))
+      ∙ negℤ-negℤ n)
+
+  pub up-more : (q *ℤ pos d) <ℤ z → q +ℤ pos 1 ≡ roundUp z d
+  up-more h =
+      let a = lt? (int q ⊡ d) (int z) h in
+      let b = lt? (int z) (int q ⊡ d ⊕ nat d) (down-upper z D) in
+      up-unique (q +ℤ pos 1) (le! (int z) ((int q ⊕ nat 1) ⊡ d) (omega arith)) (lt! ((int q ⊕ nat 1) ⊡ d) (int z ⊕ nat d) (omega arith))
+
+  pub up-same : z ≤ℤ (q *ℤ pos d) → q ≡ roundUp z d
+  up-same h = let a = le? (int q ⊡ d) (int z) (down-lower z D) in up-unique q h (lt! (int q ⊡ d) (int z ⊕ nat d) (omega arith))

@@ -5,7 +5,7 @@ use native.Mathlib.Nat.{zero-add, mul-one, mul-pos, mul-lt-mul-of-pos-right, div
 use native.Mathlib.Omega.{arith}
 use mathlib.Core.Bool.{Bool, true, false, cond, false≢true}
 use lib.Dec.{T, ltb, lit<}
-use lib.IntN.{ℤ, pos, negsuc, negℤ, natAbs, _+ℤ_, _-ℤ_, _*ℤ_, one, *ℤ-one}
+use lib.IntN.{ℤ, pos, negsuc, negℤ, natAbs, _*ℤ_, one, *ℤ-one}
 use lib.Signed.{_≤ℤ_, _<ℤ_, ltZ, ltZ-yes, ltZ-no, clashℤ}
 use borrow.Author.Tests.{ltb-true, ltb-false, lt-ltb, le-ltb}
 use lib.Ieee.{Float, nan, inf, fin, binary64, up, down, below, lt, le, toSigned, ofInt}
@@ -17,8 +17,8 @@ use lib.Ieee.Back.{round-whole}
 use Rattle.integer.specs.Parts.{int, nat, _⊕_, _⊡_, neg}
 use Rattle.integer.proofs.Parts.{eq!, lt!, lt?}
 use Rattle.integer.proofs.Laws.{scale-mono}
-use Rattle.double.specs.Double.{signed, isNegative, roundDown, roundUp, rounded, HasQuotient}
-use Rattle.double.proofs.Rules.{Within1, down-less, down-same, up-more, up-same}
+use Rattle.double.specs.Double.{signed, isNegative, rounded, HasQuotient}
+use Rattle.double.proofs.Rules.{Within1}
 
 -- ---- a sign and a magnitude
 pub abs-signed : (s : Bool) (n : ℕ) → natAbs (signed s n) ≡ n
@@ -108,6 +108,16 @@ ofInt-value (negsuc n) h = round-whole binary64 true (suc n) h
 ofInt-quotient : (z : ℤ) → natAbs z ≤ 2 ^ 53 → HasQuotient (ofInt binary64 z) z 1
 ofInt-quotient z h = subst (λ (i : ℤ). HasQuotient (ofInt binary64 z) i 1) (signed-abs z) (quotient-of-value (ofInt binary64 z) (isNegative z) (natAbs z) 1 (ofInt-value z h))
 
+-- a double of value p / c against an integer
+module _ (x : Float) (p : ℤ) {c : ℕ} (C : 0 < c) (v : HasQuotient x p c) (n : ℤ) (h : natAbs n ≤ 2 ^ 53) where
+  pub less-integer : lt x (ofInt binary64 n) ≡ ltZ p (n *ℤ pos c)
+  unfolding one
+  less-integer = lt-quotient x (ofInt binary64 n) p n C (lit< tt) v (ofInt-quotient n h) ∙ ap (λ (z : ℤ). ltZ z (n *ℤ pos c)) (*ℤ-one p)
+
+  pub more-integer : lt (ofInt binary64 n) x ≡ ltZ (n *ℤ pos c) p
+  unfolding one
+  more-integer = lt-quotient (ofInt binary64 n) x n p (lit< tt) C (ofInt-quotient n h) v ∙ ap (ltZ (n *ℤ pos c)) (*ℤ-one p)
+
 -- ---- the fraction of a double
 abbrev pub num : Float → ℤ
 num nan = pos 0
@@ -127,6 +137,7 @@ pub record Small (y : Float) : Type 0 where
   pub is-finite : finite y ≡ true
   pub magnitude : natAbs (num y) < 2 ^ 32 * den y
   pub positive : 0 < den y
+  pub has-quotient : HasQuotient y (num y) (den y)
   pub as-fraction : (rule : ℤ → ℕ → ℤ) → rounded rule 0 y ≡ rule (num y) (den y)
 
 pub small : (y : Float) → lt (two32 true) y ≡ true → lt y (two32 false) ≡ true → Small y
@@ -138,6 +149,7 @@ small (fin s m e) h k = record {
   is-finite = refl;
   magnitude = bound s h k;
   positive = down-pos e;
+  has-quotient = refl;
   as-fraction = λ rule. ap (λ (a : ℕ). rule (signed s a) (down e)) (mul-one (m * up e));
 }
   where
@@ -178,8 +190,6 @@ pub record Truncated (y : Float) (n : ℤ) : Type 0 where
   pub under : T (lt y (fin false 1 (pos 63)))
   pub integer : natAbs n ≤ 2 ^ 32
   pub within : Within1 (num y) n (den y)
-  pub less : lt y (ofInt binary64 n) ≡ ltZ (num y) (n *ℤ pos (den y))
-  pub more : lt (ofInt binary64 n) y ≡ ltZ (n *ℤ pos (den y)) (num y)
 
 -- a value below 2^32 in magnitude lies between ±2^63
 between : (s : Bool) (a d : ℕ) → 0 < d → a < 2 ^ 32 * d → (below true (1 * 2 ^ 63 * d) s (a * 1) ≡ true) × (below s (a * 1) false (1 * 2 ^ 63 * d) ≡ true)
@@ -199,37 +209,14 @@ truncated-fin s m e n h k =
     let l : a / d < 2 ^ 32 = div-lt-iff-lt-mul D .1 h in
     let i : n ≡ signed s (a / d) = k ∙ truncated-signed s (a / d) l in
     let j : natAbs n ≤ 2 ^ 32 = rw (i, abs-signed s (a / d)) (omega arith) in
-    let v : HasQuotient (ofInt binary64 n) n 1 = ofInt-quotient n (omega arith) in
     record {
       over = le-of-lt (fin true 1 (pos 63)) (fin s m e) (between s a d D h .0);
       under = subst T (sym (between s a d D h .1)) tt;
       integer = j;
       within = rw i (signed-within s a d D);
-      less = lt-quotient (fin s m e) (ofInt binary64 n) (signed s a) n D (lit< tt) refl v ∙ ap (λ (z : ℤ). ltZ z (n *ℤ pos d)) (*ℤ-one (signed s a));
-      more = lt-quotient (ofInt binary64 n) (fin s m e) n (signed s a) (lit< tt) D v refl ∙ ap (ltZ (n *ℤ pos d)) (*ℤ-one (signed s a));
     }
 
 pub truncated : (y : Float) (n : ℤ) → Small y → n ≡ toSigned 63 y → Truncated y n
 truncated nan n h k = absurd (false≢true (h .is-finite))
 truncated (inf s) n h k = absurd (false≢true (h .is-finite))
 truncated (fin s m e) n h k = truncated-fin s m e n (subst (λ (a : ℕ). a < 2 ^ 32 * down e) (abs-signed s (m * up e)) (h .magnitude)) k
-
--- ---- a rule by the side of the truncated double on which y lies
-pub record Sides (y : Float) (n : ℤ) : Type 0 where
-  pub down-left : lt y (ofInt binary64 n) ≡ true → n -ℤ pos 1 ≡ rounded roundDown 0 y
-  pub down-right : lt y (ofInt binary64 n) ≡ false → n ≡ rounded roundDown 0 y
-  pub up-right : lt (ofInt binary64 n) y ≡ true → n +ℤ pos 1 ≡ rounded roundUp 0 y
-  pub up-left : lt (ofInt binary64 n) y ≡ false → n ≡ rounded roundUp 0 y
-
-pub sides : (y : Float) (n : ℤ) → Small y → Truncated y n → Sides y n
-sides y n a t =
-    let D = a .positive in
-    let k = t .within in
-    let down = sym (a .as-fraction roundDown) in
-    let above = sym (a .as-fraction roundUp) in
-    record {
-      down-left = λ h. down-less (num y) n D k (ltZ-true (sym (t .less) ∙ h)) ∙ down;
-      down-right = λ h. down-same (num y) n D k (ltZ-false (sym (t .less) ∙ h)) ∙ down;
-      up-right = λ h. up-more (num y) n D k (ltZ-true (sym (t .more) ∙ h)) ∙ above;
-      up-left = λ h. up-same (num y) n D k (ltZ-false (sym (t .more) ∙ h)) ∙ above;
-    }

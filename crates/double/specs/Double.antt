@@ -6,11 +6,12 @@ use mathlib.Core.Bool.{Bool, true, false, _&&_, cond}
 use lib.Dec.{ltb, eqb}
 use lib.IntN.{ℤ, pos, negsuc, negℤ, natAbs, _*ℤ_}
 use lib.Ieee.{Float, nan, inf, fin, binary64, up, down, round}
+use lib.Ieee.Nearest.{closest}
 use lib.Ieee.Scale.{finite}
 use Rattle.integer.specs.Round.{floor}
 use Rattle.word.specs.Format.{isFormat, inWord}
 use Rattle.double.specs.declared.Rounding.{Rounding}
-use Rattle.double.specs.declared.Rounding.the-variants.{Down, Up}
+use Rattle.double.specs.declared.Rounding.the-variants.{Down, Up, Nearest}
 use Rattle.double.specs.declared.Converted.{Converted}
 use Rattle.double.specs.declared.Converted.the-variants.{Word, Refused}
 use Rattle.double.specs.declared.Limits.{Limits}
@@ -40,10 +41,15 @@ roundDown z d = floor z d
 abbrev pub roundUp : ℤ → ℕ → ℤ
 roundUp z d = negℤ (floor (negℤ z) d)
 
+-- "rounded to the nearest whole count, a tie to the even one": the magnitude by the library's `closest`, which is that, and the sign kept
+abbrev pub roundNearest : ℤ → ℕ → ℤ
+roundNearest z d = signed (isNegative z) (closest (natAbs z) d)
+
 -- the rule that a kind of rounding names
 abbrev pub ruleOf : Rounding → ℤ → ℕ → ℤ
 ruleOf Down = roundDown
 ruleOf Up = roundUp
+ruleOf Nearest = roundNearest
 
 -- ---- a double to a word
 

@@ -2,3 +2,4 @@
 pub mod Double
 pub mod Examples
 pub mod Sides
+pub mod Nearest

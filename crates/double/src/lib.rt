@@ -4,12 +4,14 @@ ghost use Prim.Native.Nat.{_≤_, _^_};
 ghost use lib.IntN.{pos, natAbs};
 ghost use lib.Ieee.{binary64, mul, lt, fin, ofBits, round};
 ghost use mathlib.Core.Bool.{true, false};
-ghost use Rattle.double.specs.Double.{power, rounded, roundedWord, ruleOf, convert, conversionNumber, convertedNumber, convertLimits, limitsNumber, limitWordsNumber, isNegative, answer, doubleAnswer, HasQuotient};
+ghost use Rattle.double.specs.Double.{power, rounded, roundedWord, roundDown, roundNearest, ruleOf, convert, conversionNumber, convertedNumber, convertLimits, limitsNumber, limitWordsNumber, isNegative, answer, doubleAnswer, HasQuotient};
 
 // How a value between two counts is rounded.
 pub enum Rounding {
     Down,
     Up,
+    // to the nearer count, and at a tie to the even one
+    Nearest,
 }
 
 // What a conversion answers.
@@ -52,16 +54,42 @@ fn scaled(x: f64, b: u32) -> f64
     x * power_of_two(b)
 }
 
-// y rounded to an integer. Truncation loses less than 1, and the integer as a double again tells on which side.
+// The floor of y. Truncation loses less than 1, and the integer as a double again tells on which side.
+fn floor_integer(y: f64) -> i64
+    requires { ⌜ (lt (fin true 1 (pos 32)) y ≡ true) × (lt y (fin false 1 (pos 32)) ≡ true) ⌝ }
+    ensures { λ r. ⌜ r ≡ rounded roundDown 0 y ⌝ }
+{
+    let n = std::num::truncating_f64_to_i64(y);
+    if y < n as f64 { n - 1 } else { n }
+}
+
+// y rounded to the nearest integer, a tie to the even one, by its floor q. Twice y and twice the middle of q and q + 1 are doubles exactly.
+fn nearest_integer(y: f64, q: i64) -> i64
+    requires { ⌜ (lt (fin true 1 (pos 32)) y ≡ true) × (lt y (fin false 1 (pos 32)) ≡ true) ⌝ }
+    requires { ⌜ q ≡ rounded roundDown 0 y ⌝ }
+    ensures { λ r. ⌜ r ≡ rounded roundNearest 0 y ⌝ }
+{
+    let twice_y = scaled(y, 1);
+    let twice_middle = (2 * q + 1) as f64;
+    if twice_y < twice_middle {
+        return q;
+    }
+    if twice_middle < twice_y {
+        return q + 1;
+    }
+    if q % 2 == 0 { q } else { q + 1 }
+}
+
+// y rounded to an integer, which is its floor or one more.
 fn round_integer(y: f64, how: Rounding) -> i64
     requires { ⌜ (lt (fin true 1 (pos 32)) y ≡ true) × (lt y (fin false 1 (pos 32)) ≡ true) ⌝ }
     ensures { λ r. ⌜ r ≡ rounded (ruleOf how) 0 y ⌝ }
 {
-    let n = std::num::truncating_f64_to_i64(y);
-    let back = n as f64;
+    let q = floor_integer(y);
     match how {
-        Rounding::Down => { if y < back { n - 1 } else { n } }
-        Rounding::Up => { if back < y { n + 1 } else { n } }
+        Rounding::Down => q,
+        Rounding::Up => { if (q as f64) < y { q + 1 } else { q } }
+        Rounding::Nearest => nearest_integer(y, q),
     }
 }
 
