@@ -10,12 +10,14 @@ use lib.Ieee.{binary64, ofBits}
 use lib.ListN.{take, drop}
 use Rattle.word.specs.Ascii.{ascii}
 use Rattle.word.specs.Word.{wordsOut}
-use Rattle.double.specs.Double.{conversionNumber, rounded, roundUp, roundDown}
+use Rattle.double.specs.Double.{convertedNumber}
 use Rattle.gradient.specs.Index.{tab}
 use Rattle.gradient.specs.Demand.{every2}
+use Rattle.image.specs.declared.Sizes.{Sizes}
 use Rattle.interface.specs.Tables.{eqZ, imageNumber}
 use Rattle.interface.specs.Calls.{coldAnswer, solveNumber, commandsAfter, boundsAfter}
-use Rattle.sheet.specs.Sample.{changed, formerLines, lines, mixedLines, stepLines, text}
+use Rattle.frame.specs.Frame.{convertedWord, wordOf}
+use Rattle.sheet.specs.Sample.{changed, formerLines, lines, mixedLines, stepLines, targetLines, text}
 use Rattle.design_page.specs.Page.{pageNumber, sheetPage}
 
 -- a case, and what the document says of it
@@ -28,12 +30,16 @@ pub data Case : Type 0 where
   passes : List ℕ → ℕ → Case
   -- a solve on an image from its cold start with a state and a target has a number
   answers : List ℕ → ℤ → List ℤ → ℕ → Case
-  -- a double (its bits) becomes a word by a rule
-  converts : (ℤ → ℕ → ℤ) → ℕ → ℤ → Case
+  -- a double (its bits) becomes a word by a kind
+  converts : ℕ → ℕ → ℤ → Case
   -- line i of a sheet's page has a text
   prints : List ℕ → ℕ → String → Case
   -- the call for a sheet's page, with a buffer of so many bytes, has a number
   pages : List ℕ → ℕ → ℕ → Case
+
+-- "all have b 4, W 8": S's sizes
+abbrev sizes : Sizes
+sizes = record { nu = 1; steps = 1; nx = 1; b = 4; w = 8; sweeps = 3; nr = 0 }
 
 unfoldable pub holds : Case → Bool
 holds (solves image x t s zs es) =
@@ -41,11 +47,12 @@ holds (solves image x t s zs es) =
 holds (numbers image n) = eqb (imageNumber image) n
 holds (passes image n) = not (eqb (imageNumber image) n)
 holds (answers image x t n) = eqb (solveNumber image (wordsOut (x ∷ [])) (wordsOut t) (coldAnswer image) 8) n
-holds (converts rule bits z) = eqb (conversionNumber rule 4 8 (ofBits binary64 bits)) 0 && eqZ (rounded rule 4 (ofBits binary64 bits)) z
+holds (converts kind bits z) =
+    eqb (convertedNumber (wordOf sizes kind (ofBits binary64 bits))) 0 && eqZ (convertedWord (wordOf sizes kind (ofBits binary64 bits))) z
 holds (prints sheet i line) = every2 eqb (take 44 (drop (44 * i) (sheetPage sheet))) (ascii line ++ 10 ∷ [])
 holds (pages sheet room n) = eqb (pageNumber sheet room) n
 
--- ---- the images: "all have b 4, W 8"
+-- ---- the images
 -- S with a step factor, limits −l and l, a state limit
 unfoldable pub S : ℕ → ℕ → ℕ → List ℕ
 S beta l bound =
@@ -121,10 +128,10 @@ table =
     ∷ numbers (two 9 8 0) 10
     ∷ numbers (two 8 7 9) 11
     ∷ passes (two 8 7 10) 11
-    -- double 0.03125 as low limit is 1, as high limit 0; −0.03125 in Φ is −1
-    ∷ converts roundUp 0x3FA0000000000000 (pos 1)
-    ∷ converts roundDown 0x3FA0000000000000 (pos 0)
-    ∷ converts roundDown 0xBFA0000000000000 (negsuc 0)
+    -- double 0.03125 as low limit is 1, as high limit 0; −0.03125 in Φ was −1 and is 0 by request 7
+    ∷ converts 4 0x3FA0000000000000 (pos 1)
+    ∷ converts 5 0x3FA0000000000000 (pos 0)
+    ∷ converts 3 0xBFA0000000000000 (pos 0)
     -- state 10 passes 13 in S, 11 does not
     ∷ answers (S 0 20 10) (pos 10) [] 0
     ∷ answers (S 0 20 10) (pos 11) [] 13
@@ -147,7 +154,7 @@ table =
     ∷ prints (changed 4 0x0500003FA0000000000000) 3 "05 0000 3FA0000000000000 0000000000000000 M"
     ∷ prints (changed 5 0x0600008000000000000000) 4 "06 0000 8000000000000000 0000000000000000 K"
     ∷ prints (text lines) 2 "04 0000 BFF4000000000000 BFF4000000000000 K"
-    ∷ prints (changed 2 0x030000BFA0000000000000) 1 "03 0000 BFA0000000000000 BFB0000000000000 M"
+    ∷ prints (changed 2 0x030000BFA0000000000000) 1 "03 0000 BFA0000000000000 0000000000000000 M"
     ∷ prints (changed 6 0x0700003FE3333333333333) 5 "07 0000 3FE3333333333333 3FE4000000000000 M"
     -- six lines of 44 bytes, "else 15", after 12, which a state limit of 118 counts has; the empty sheet is 4
     ∷ pages (text lines) 264 0
@@ -206,4 +213,31 @@ table =
     ∷ pages (changed 3 0x0400003FA0000000000000) 264 17
     ∷ pages (changed 3 0x040000BFA0000000000000) 264 0
     ∷ pages (changed 4 0x050000BFA0000000000000) 264 17
+    -- request 7: 0.09375 becomes 2, as −0.09375 becomes −2; 2.5 and −2.5 counts go to the even one too, 2.5 with one bit more to 3
+    ∷ converts 3 0x3FB8000000000000 (pos 2)
+    ∷ converts 3 0xBFB8000000000000 (negsuc 1)
+    ∷ converts 2 0x3FC4000000000000 (pos 2)
+    ∷ converts 8 0xBFC4000000000000 (negsuc 1)
+    ∷ converts 8 0x3FC4000000000001 (pos 3)
+    -- "limits, β, state and target limits round as before": 19.75 counts as a high limit, −19.75 as a low, a quarter as β, 9.25 and 10.25 as limits
+    ∷ converts 5 0x3FF3C00000000000 (pos 19)
+    ∷ converts 4 0xBFF3C00000000000 (negsuc 18)
+    ∷ converts 6 0x3F90000000000000 (pos 1)
+    ∷ converts 7 0x3FE2800000000000 (pos 10)
+    ∷ converts 9 0x3FE4800000000000 (pos 11)
+    -- "and only then tested for 5": in Φ 127.25 counts are 127, 127.5 a tie that goes to 128; the same below zero
+    ∷ pages (changed 2 0x030000401FD00000000000) 264 0
+    ∷ pages (changed 2 0x030000401FE00000000000) 264 5
+    ∷ pages (changed 2 0x030000C01FD00000000000) 264 0
+    ∷ pages (changed 2 0x030000C01FE00000000000) 264 5
+    -- H of half a count is 0, which is 9, and with one bit more 1; of 16.5 it is 16, and with one bit more 17, which is 10
+    ∷ pages (changed 1 0x0200003FA0000000000000) 264 9
+    ∷ pages (changed 1 0x0200003FA0000000000001) 264 0
+    ∷ pages (changed 1 0x0200003FF0800000000000) 264 0
+    ∷ pages (changed 1 0x0200003FF0800000000001) 264 10
+    -- the page: the least double below zero in Φ moves to plus zero; a target table of −24.5 counts, and a target limit of 10.5
+    ∷ prints (changed 2 0x0300008000000000000001) 1 "03 0000 8000000000000001 0000000000000000 M"
+    ∷ prints (changed 2 0x0300008000000000000000) 1 "03 0000 8000000000000000 0000000000000000 K"
+    ∷ prints (text targetLines) 6 "08 0000 BFF8800000000000 BFF8000000000000 M"
+    ∷ prints (text targetLines) 7 "09 0000 3FE5000000000000 3FE6000000000000 M"
     ∷ []

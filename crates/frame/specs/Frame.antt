@@ -2,14 +2,14 @@
 use Prim.Native.Nat.{ℕ, _+_, _-_, _*_, _/_, _%_, _≤_, _<_}
 use mathlib.Core.Bool.{Bool, true, false, _&&_, _||_, cond}
 use mathlib.Core.List.{List, [], _∷_}
-use lib.Dec.{leb, ltb, eqb}
+use lib.Dec.{ltb, eqb}
 use lib.IntN.{ℤ, pos, negsuc}
 use lib.Ieee.{Float, fin, binary64, ofBits}
 use Rattle.double.specs.Double.{convert, convertedNumber, ruleOf}
 use Rattle.double.specs.declared.Converted.{Converted}
 use Rattle.double.specs.declared.Converted.the-variants.{Word, Refused}
 use Rattle.double.specs.declared.Rounding.{Rounding}
-use Rattle.double.specs.declared.Rounding.the-variants.{Down, Up}
+use Rattle.double.specs.declared.Rounding.the-variants.{Down, Up, Nearest}
 use Rattle.image.specs.Sizes.{commandCount, sound}
 use Rattle.image.specs.declared.Sizes.{Sizes}
 use Rattle.line.specs.Line.{lineNumber}
@@ -117,9 +117,13 @@ isHigh z k = (lowBase z + commandCount z ≤ k) × (k < lowBase z + commandCount
 
 -- ---- one such line
 
--- "02 and 03 down, 04 up, 05 down, 06 up, 07 up", 08 "rounded as 03", 09 "as 07"
+-- an entry of a table: of H, 02, of Φ, 03, or of the target table, 08
+abbrev pub isTableEntry : ℕ → Bool
+isTableEntry kind = eqb kind 2 || eqb kind 3 || eqb kind 8
+
+-- "kinds 02, 03 and 08 are rounded to the nearest whole count", and the others as before: "04 up, 05 down, 06 up, 07 up", 09 "treated as 07"
 abbrev pub roundingOf : ℕ → Rounding
-roundingOf kind = cond (leb kind 3) Down (cond (eqb kind 5) Down (cond (eqb kind 8) Down Up))
+roundingOf kind = cond (isTableEntry kind) Nearest (cond (eqb kind 5) Down Up)
 
 -- a limit of the state, 07, or of the target, 09, "treated as 07"
 abbrev pub isInputLimit : ℕ → Bool

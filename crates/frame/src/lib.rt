@@ -120,13 +120,16 @@ pub fn due_at(z: Sizes, i: usize) -> Due
 fn rounding(kind: usize) -> Rounding
     ensures { λ r. ⌜ r ≡ roundingOf kind ⌝ }
 {
-    if kind <= 3 {
-        return Rounding::Down;
+    if kind == 2 {
+        return Rounding::Nearest;
     }
-    if kind == 5 {
-        return Rounding::Down;
+    if kind == 3 {
+        return Rounding::Nearest;
     }
     if kind == 8 {
+        return Rounding::Nearest;
+    }
+    if kind == 5 {
         Rounding::Down
     } else {
         Rounding::Up

@@ -8,7 +8,7 @@ use lib.Ieee.{Float, binary64, ofBits, toBits}
 use Rattle.word.specs.Word.{wordsOut, patternBytes}
 use Rattle.double.specs.Double as double
 use Rattle.double.specs.declared.Rounding.{Rounding}
-use Rattle.double.specs.declared.Rounding.the-variants.{Down, Up}
+use Rattle.double.specs.declared.Rounding.the-variants.{Down, Up, Nearest}
 use Rattle.double.specs.declared.Limits.{Limits}
 
 -- 15, "output buffer not the exact length", comes first here
@@ -21,17 +21,17 @@ doubleOf bits = ofBits binary64 bits
 
 -- ---- a double to a word
 
--- 0 is "down", any other number "up"
+-- 0 is "down", 1 is "up", any other number "nearest"
 abbrev pub roundingOf : ℕ → Rounding
-roundingOf up = cond (eqb up 0) Down Up
+roundingOf how = cond (eqb how 0) Down (cond (eqb how 1) Up Nearest)
 
 -- 0, 5 or 15
 abbrev pub wordNumber : ℕ → ℕ → ℕ → ℕ → ℕ → ℕ
-wordNumber bits b w up room = inBuffer 4 room (double.conversionNumber (double.ruleOf (roundingOf up)) b w (doubleOf bits))
+wordNumber bits b w how room = inBuffer 4 room (double.conversionNumber (double.ruleOf (roundingOf how)) b w (doubleOf bits))
 
 -- the word's four bytes, "big-endian"
 abbrev pub wordAnswer : ℕ → ℕ → ℕ → List ℕ
-wordAnswer bits b up = wordsOut (double.rounded (double.ruleOf (roundingOf up)) b (doubleOf bits) ∷ [])
+wordAnswer bits b how = wordsOut (double.rounded (double.ruleOf (roundingOf how)) b (doubleOf bits) ∷ [])
 
 -- ---- a motor's limits
 

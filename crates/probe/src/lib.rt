@@ -10,26 +10,29 @@ use double::LimitWords;
 use double::Limits;
 use double::Rounding;
 
-fn rounding(up: u32) -> Rounding
-    ensures { λ r. ⌜ r ≡ roundingOf up ⌝ }
+fn rounding(how: u32) -> Rounding
+    ensures { λ r. ⌜ r ≡ roundingOf how ⌝ }
 {
-    if up == 0 {
-        Rounding::Down
-    } else {
+    if how == 0 {
+        return Rounding::Down;
+    }
+    if how == 1 {
         Rounding::Up
+    } else {
+        Rounding::Nearest
     }
 }
 
 // A double's pattern as a word.
 #[no_mangle]
-pub extern "C" fn probe_to_word(bits: u64, b: u32, w: u32, up: u32, out: &mut [u8]) -> u32
-    ensures number { λ r. ⌜ r ≡ wordNumber bits b w up (length (now (out .entry))) ⌝ }
-    ensures bytes { λ r. ⌜ now (out .exit) ≡ cond (eqb r 0) (wordAnswer bits b up) (now (out .entry)) ⌝ }
+pub extern "C" fn probe_to_word(bits: u64, b: u32, w: u32, how: u32, out: &mut [u8]) -> u32
+    ensures number { λ r. ⌜ r ≡ wordNumber bits b w how (length (now (out .entry))) ⌝ }
+    ensures bytes { λ r. ⌜ now (out .exit) ≡ cond (eqb r 0) (wordAnswer bits b how) (now (out .entry)) ⌝ }
 {
     if out.len() != 4 {
         return 15;
     }
-    match double::to_word(double::of_pattern(bits), b, w, rounding(up)) {
+    match double::to_word(double::of_pattern(bits), b, w, rounding(how)) {
         Converted::Word(z) => {
             word::put_word(out, 0, z);
             0

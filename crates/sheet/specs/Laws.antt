@@ -1,5 +1,5 @@
 -- What the laws of a sheet state. Definitions only.
-use Prim.Native.Nat.{ℕ, _+_, _*_, _/_, _%_}
+use Prim.Native.Nat.{ℕ, _+_, _*_, _/_, _%_, _<_}
 use mathlib.Core.Path.{_≡_}
 use mathlib.Core.Bool.{true}
 use mathlib.Core.List.{List}
@@ -8,13 +8,14 @@ use lib.Ieee.{Float, binary64, ofBits}
 use Rattle.word.specs.Word.{wordAt}
 use Rattle.hex.specs.Hex.{hexAt}
 use Rattle.double.specs.Double.{scalable, rounded, ruleOf, roundUp, roundDown}
+use Rattle.double.specs.Nearest.{IsNearestCount}
 use Rattle.image.specs.declared.Sizes.{Sizes}
-use Rattle.image.specs.Sizes.{commandCount}
+use Rattle.image.specs.Sizes.{bodyCount, commandCount}
 use Rattle.image.specs.Layout.{lowerAt, upperAt}
 use Rattle.line.specs.Line.{lineAt}
 use Rattle.frame.specs.declared.Head.{Head}
 use Rattle.frame.specs.declared.Head.the-variants.{Sized, Unsized}
-use Rattle.frame.specs.Frame.{dueAt, headOf, lowBase, roundingOf, total}
+use Rattle.frame.specs.Frame.{dueAt, headOf, isTableEntry, lowBase, roundingOf, total}
 use Rattle.sheet.specs.Sheet.{sheetImage}
 
 -- ---- a line and its word
@@ -30,6 +31,11 @@ pub record Rounded (z : Sizes) (s : List ℕ) (i : ℕ) : Type 0 where
   pub column : hexAt 2 s (23 * (i + 1) + 4) ≡ dueAt z i .column
   pub scales : scalable (z .b) (doubleAt s i) ≡ true
   pub word : wordAt (sheetImage s) (4 * (8 + i)) ≡ rounded (ruleOf (roundingOf (dueAt z i .kind))) (z .b) (doubleAt s i)
+
+-- the tables, "02, 03 and 08 .. to the nearest whole count": where the line of word 8 + i is of one, the word is the nearest to the line's double
+abbrev pub NearestTables : Sizes → List ℕ → Type 0
+NearestTables z s =
+    (i : ℕ) → i < bodyCount z → isTableEntry (hexAt 2 s (23 * (i + 1))) ≡ true → IsNearestCount (z .b) (doubleAt s i) (wordAt (sheetImage s) (4 * (8 + i)))
 
 -- ---- the limits of a command
 

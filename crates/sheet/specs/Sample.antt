@@ -51,7 +51,7 @@ image-S : sheetImage (text lines) ≡
 unfolding isHex digitOf hexes hexAt digitByte hexDigits numberBE digitsBE bytesBE wordsOut ofBits floor scalable rounded accepted sound lineAt headOf total dueAt wordOf lineValue lineFault lineWord sheetNumber sheetWords sheetImage
 image-S = refl
 
--- S with one target value: "a target table" of −24.5 counts, "rounded as 03", and a target limit of 10.5, "treated as 07"
+-- S with one target value: "a target table" of −24.5 counts, a tie that goes to −24, and a target limit of 10.5, "treated as 07"
 abbrev pub targetLines : List ℕ
 targetLines = set lines 0 0x0101010104080100030000 ++ (0x080000BFF8800000000000 ∷ 0x0900003FE5000000000000 ∷ [])
 
@@ -62,7 +62,7 @@ targetChanged k n = text (set targetLines k n)
 image-target : sheetImage (text targetLines) ≡
     0 ∷ 0 ∷ 0 ∷ 1 ∷ 0 ∷ 0 ∷ 0 ∷ 1 ∷ 0 ∷ 0 ∷ 0 ∷ 1 ∷ 0 ∷ 0 ∷ 0 ∷ 4 ∷ 0 ∷ 0 ∷ 0 ∷ 8 ∷ 0 ∷ 0 ∷ 0 ∷ 3 ∷ 0 ∷ 0 ∷ 0 ∷ 1 ∷ 0 ∷ 0 ∷ 0 ∷ 0
     ∷ 0 ∷ 0 ∷ 0 ∷ 8 ∷ 0 ∷ 0 ∷ 0 ∷ 16 ∷ 255 ∷ 255 ∷ 255 ∷ 236 ∷ 0 ∷ 0 ∷ 0 ∷ 20 ∷ 0 ∷ 0 ∷ 0 ∷ 0 ∷ 0 ∷ 0 ∷ 0 ∷ 10
-    ∷ 255 ∷ 255 ∷ 255 ∷ 231 ∷ 0 ∷ 0 ∷ 0 ∷ 11 ∷ []
+    ∷ 255 ∷ 255 ∷ 255 ∷ 232 ∷ 0 ∷ 0 ∷ 0 ∷ 11 ∷ []
 unfolding isHex digitOf hexes hexAt digitByte hexDigits numberBE digitsBE bytesBE wordsOut ofBits floor scalable rounded accepted sound lineAt headOf total dueAt wordOf lineValue lineFault lineWord sheetNumber sheetWords sheetImage
 image-target = refl
 
@@ -179,6 +179,14 @@ samples =
     ∷ sample 5 (changed 2 0x0300004020000000000000)
     ∷ sample 5 (changed 6 0x070000BFB0000000000000)
     ∷ sample 0 (changed 6 0x070000BFA0000000000000)
+    -- tables "to the nearest .., and only then tested for 5": 127.25 counts are 127, and −127.5 a tie that goes to −128; 127.5 as a high limit are 127
+    ∷ sample 0 (changed 1 0x020000401FD00000000000)
+    ∷ sample 5 (changed 1 0x020000401FE00000000000)
+    ∷ sample 0 (changed 2 0x030000C01FDFFFFFFFFFFF)
+    ∷ sample 5 (changed 2 0x030000C01FE00000000000)
+    ∷ sample 0 (targetChanged 7 0x080000401FD00000000000)
+    ∷ sample 5 (targetChanged 7 0x080000401FE00000000000)
+    ∷ sample 0 (changed 4 0x050000401FE00000000000)
     -- "minus zero is zero"
     ∷ sample 0 (changed 5 0x0600008000000000000000)
     -- "the first fault decides": 5 at the low's own line before 1 at the high's; 1 before that 5

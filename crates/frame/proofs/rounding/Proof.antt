@@ -1,19 +1,24 @@
 -- `frame::rounding` meets its contract. Assumes nothing.
-use borrow.Author.Tests.{le-leb, lt-leb, eq-eqb, ne-eqb}
+use borrow.Author.Tests.{eq-eqb, ne-eqb}
 use Rattle.frame.proofs.rounding.Statement.{statement}
 use Rattle.frame.proofs.rounding.Tie as tie
 
 returns : tie.Need-returns
-returns c = rw (le-leb _ 3 (c .if1 .taken))
+returns c = rw (eq-eqb _ 2 (c .if1 .taken))
 
 returns-2 : tie.Need-returns-2
-returns-2 c = rw (lt-leb _ 3 (c .before .if1 .left), eq-eqb _ 5 (c .if2 .taken))
+returns-2 c = rw (ne-eqb _ 2 (c .before .if1 .left), eq-eqb _ 3 (c .if2 .taken))
 
 returns-3 : tie.Need-returns-3
-returns-3 c = rw (lt-leb _ 3 (c .before .before .if1 .left), ne-eqb _ 5 (c .before .if2 .left), eq-eqb _ 8 (c .if3 .taken))
+returns-3 c = rw (ne-eqb _ 2 (c .before .before .if1 .left), ne-eqb _ 3 (c .before .if2 .left), eq-eqb _ 8 (c .if3 .taken))
 
 returns-4 : tie.Need-returns-4
-returns-4 c = rw (lt-leb _ 3 (c .before .before .if1 .left), ne-eqb _ 5 (c .before .if2 .left), ne-eqb _ 8 (c .if3 .left))
+returns-4 c =
+    rw (ne-eqb _ 2 (c .before .before .before .if1 .left), ne-eqb _ 3 (c .before .before .if2 .left), ne-eqb _ 8 (c .before .if3 .left), eq-eqb _ 5 (c .if4 .taken))
+
+returns-5 : tie.Need-returns-5
+returns-5 c =
+    rw (ne-eqb _ 2 (c .before .before .before .if1 .left), ne-eqb _ 3 (c .before .before .if2 .left), ne-eqb _ 8 (c .before .if3 .left), ne-eqb _ 5 (c .if4 .left))
 
 pub rounding-spec : {M : Type 1} → statement M
-rounding-spec = tie.close (tie.spec returns returns-2 returns-3 returns-4)
+rounding-spec = tie.close (tie.spec returns returns-2 returns-3 returns-4 returns-5)

@@ -25,7 +25,7 @@ module _ (c : tie.After-to-word) where
   start = c .before .before .before .before .before
 
   abbrev rule : ℤ → ℕ → ℤ
-  rule = ruleOf (roundingOf (start .args .up))
+  rule = ruleOf (roundingOf (start .args .how))
 
   abbrev x : Float
   x = doubleOf (start .args .bits)
