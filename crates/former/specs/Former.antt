@@ -1,5 +1,5 @@
 -- The definitions as they stood before request 3, "Limits that change along the horizon": those that differ, each with the name and the
--- text that it had, and those that are over them. All else is cited, the arithmetic of today and its cold start with it, and 17 is
+-- text that it had, and those that are over them. All else is cited, the arithmetic, the conversion and the cold start of today with it, and 17 is
 -- tested between 7 and 8 as today. A sheet had nu lines of kind 04 and nu of kind 05, row the motor, column 0, and an image nu lows and nu highs. Definitions only.
 use Prim.Native.Nat.{ℕ, _+_, _-_, _*_, _%_, _^_}
 use mathlib.Core.Bool.{Bool, cond, _&&_}

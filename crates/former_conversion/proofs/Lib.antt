@@ -1,0 +1,3 @@
+-- The laws that docs cite.
+pub mod Words
+pub mod Sheets
