@@ -67,8 +67,11 @@ enum gantry_number {
 
 /* Reads a design sheet and writes its image. image_len must be the image's exact length (15), which is known from the
  * sheet's first line: GANTRY_IMAGE_BYTES. Numbers: 0, 1 to 5, 7 to 12, 15, 17.
- * An image written here is accepted by the calls below. A sheet with one low and one high a motor, as it was before limits
- * went by the step, is 2 where N is above 1, and its stored image is 6 below; with N 1 both are as they were, but for 17. */
+ * The entries of the tables become words to the nearest, a tie to the even one; a low limit is rounded up, a high one down,
+ * and the step factor and the limits of state and target up. An image written here is accepted by the calls below.
+ * A sheet with one low and one high a motor, as it was before limits went by the step, is 2 where N is above 1, and its
+ * stored image is 6 below; with N 1 the image is as it was, but for 17, and so is the sheet where the entries of its tables
+ * are whole counts: before they went to the nearest, they were rounded down. */
 uint32_t gantry_intake(const uint8_t *sheet, size_t sheet_len, uint8_t *image, size_t image_len);
 
 /* Reads a design sheet and writes its design page, which shows what rounding did: a line of 43 characters and byte 10 for
