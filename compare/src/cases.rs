@@ -1,8 +1,11 @@
 //! Document 01's cases at the edges as one table, the starred ones among them, and a few of our own behind them: edges
-//! that it implies, and those of requests 1 to 6. The figures of ours are worked out by hand from the papers.
+//! that it implies, and those of requests 1 to 7. The figures of ours are worked out by hand from the papers.
 
+mod nearest;
 mod stop;
 mod sums;
+
+pub use nearest::with_ties;
 
 use crate::double::of_count;
 use crate::draft::{Draft, keep_former, text};
@@ -167,6 +170,7 @@ pub fn table() -> Vec<Case> {
     table.extend(step_lines());
     table.extend(sums::table());
     table.extend(stop::table());
+    table.extend(nearest::table());
     table.extend(pages_of_s());
     table.extend(other_pages());
     table.extend(no_pages());
@@ -196,7 +200,7 @@ fn of_document_01() -> Vec<Case> {
         with_doubles("low limit 0.03125, high 0.0625", &s(), &[(LOW, half), (HIGH, 2.0 * half)], Refused(17)),
         with_doubles("* high limit 0.03125", &s(), &[(HIGH, half)], Words(HIGH, vec![0])),
         with_doubles("both limits 0.03125", &s(), &[(LOW, half), (HIGH, half)], Refused(7)),
-        with_doubles("* -0.03125 in Φ", &s(), &[(GAIN, -half)], Words(GAIN, vec![-1])),
+        with_doubles("* -0.03125 in Φ", &s(), &[(GAIN, -half)], Words(GAIN, vec![0])),
         case("* state 10", &s(), &[10], Answer(vec![-18, 3])),
         case("state 11", &s(), &[11], Refused(13)),
         case("sweeps 0", &s().iterations(0), &[10], Refused(3)),
@@ -330,9 +334,9 @@ fn target_lines() -> Vec<Case> {
         doubles("target limit 0.03125", TARGET_LIMIT, half, Words(TARGET_LIMIT, vec![1])),
         doubles("target limit -0.03125", TARGET_LIMIT, -half, Words(TARGET_LIMIT, vec![0])),
         doubles("target limit -0.0625", TARGET_LIMIT, -2.0 * half, Refused(5)),
-        doubles("-0.03125 in the target table", TARGET_GAIN, -half, Words(TARGET_GAIN, vec![-1])),
-        // 127.5 counts: 127 in the table, which leaves B = 10 + 56, and 128 as a limit.
-        doubles("7.96875 in the target table", TARGET_GAIN, almost, Words(TARGET_GAIN, vec![127])),
+        doubles("-0.03125 in the target table", TARGET_GAIN, -half, Words(TARGET_GAIN, vec![0])),
+        // 127.5 counts: 128 both as a limit and, since request 7, in the table.
+        doubles("7.96875 in the target table", TARGET_GAIN, almost, Refused(5)),
         doubles("target limit 7.96875", TARGET_LIMIT, almost, Refused(5)),
         doubles("NaN in the target table", TARGET_GAIN, f64::NAN, Refused(5)),
         case("five targets", &many, &[0], Refused(3)),
@@ -614,20 +618,20 @@ fn page_case(name: &str, first_line: &str, page: &str) -> Case {
     }
 }
 
-/// The page of S with some other lines.
-fn page_with(lines: &[&str]) -> String {
+/// A page with some other lines.
+fn page_with(page: &str, lines: &[&str]) -> String {
     let line = |old: &str| lines.iter().find(|line| line[..7] == old[..7]).map_or(old, |line| line).to_string() + "\n";
-    PAGE_OF_SAMPLE.lines().map(line).collect()
+    page.lines().map(line).collect()
 }
 
 /// Request 2. A count is 1/16, 3FB0000000000000, and top 127.
 fn pages_of_s() -> Vec<Case> {
-    let s = |name: &str, lines: &[&str]| page_case(name, &SAMPLE[..LINE - 1], &page_with(lines));
+    let s = |name: &str, lines: &[&str]| page_case(name, &SAMPLE[..LINE - 1], &page_with(PAGE_OF_SAMPLE, lines));
     vec![
         s("the page of S", &[]),
         s("the line that request 2 prints", &[PRINTED]),
-        s("half a count below zero, down", &["03 0000 BFA0000000000000 BFB0000000000000 M"]),
-        // Rounded up to zero, which has no sign.
+        // Rounded to zero, which has no sign.
+        s("half a count below zero, to the even count", &["03 0000 BFA0000000000000 0000000000000000 M"]),
         s("half a count below zero, up", &["04 0000 BFA0000000000000 0000000000000000 M"]),
         s("a state limit rounded up to zero", &["07 0000 BFA0000000000000 0000000000000000 M"]),
         s("a count below zero", &["03 0000 BFB0000000000000 BFB0000000000000 K"]),
@@ -668,13 +672,13 @@ fn pages_of_s() -> Vec<Case> {
         s(
             "subnormal doubles on the other side",
             &[
-                "03 0000 8000000000000001 BFB0000000000000 M",
+                "03 0000 8000000000000001 0000000000000000 M",
                 "06 0000 8000000000000001 0000000000000000 M",
                 "07 0000 000FFFFFFFFFFFFF 3FB0000000000000 M",
             ],
         ),
         s("the last subnormal as low limit", &["04 0000 800FFFFFFFFFFFFF 0000000000000000 M"]),
-        // The last bit of 8, 16, −20, 20 and 10 counts: down to 16 and 19, up to −20 and 11.
+        // The last bit of 8, 16, −20, 20 and 10 counts: back to 8 and 16, up to −20 and 11, down to 19.
         s(
             "moved by the last bit",
             &[
@@ -685,10 +689,9 @@ fn pages_of_s() -> Vec<Case> {
                 "07 0000 3FE4000000000001 3FE6000000000000 M",
             ],
         ),
-        // 127 and 127.5 counts; B is 79.375, or 80, beside A = 10.
+        // 127 counts; B is 79.375, or 80, beside A = 10.
         s("top", &["03 0000 401FC00000000000 401FC00000000000 K"]),
         s("minus top", &["03 0000 C01FC00000000000 C01FC00000000000 K"]),
-        s("half a count above top", &["03 0000 401FE00000000000 401FC00000000000 M"]),
         // 126.5 counts.
         s(
             "a limit moved to top",
@@ -704,7 +707,7 @@ const PAGE_OF_TWO_MOTORS: &str = "\
 02 0100 8000000000000000 0000000000000000 K
 02 0101 3FE1000000000000 3FE0000000000000 M
 03 0000 3FF0000000000000 3FF0000000000000 K
-03 0100 BFA0000000000000 BFB0000000000000 M
+03 0100 BFA0000000000000 0000000000000000 M
 04 0000 BFF4000000000000 BFF4000000000000 K
 04 0100 BFD6000000000000 BFD4000000000000 M
 05 0000 3FF4000000000000 3FF4000000000000 K
@@ -729,7 +732,7 @@ const PAGE_OF_TWO_TARGETS: &str = "\
 07 0000 3FE4000000000000 3FE4000000000000 K
 08 0000 3FF0000000000000 3FF0000000000000 K
 08 0001 4000400000000000 4000000000000000 M
-08 0100 BFF0800000000000 BFF1000000000000 M
+08 0100 BFF0800000000000 BFF0000000000000 M
 08 0101 8000000000000000 0000000000000000 K
 09 0000 3FC8000000000000 3FC8000000000000 K
 09 0100 3FC4000000000000 3FC8000000000000 M
@@ -796,10 +799,10 @@ const PAGE_OF_THREE_STEPS: &str = "\
 07 0000 3FE4000000000000 3FE4000000000000 K
 ";
 
-/// The widest word, b 20: just below 2 counts in Φ, and limits that the last bit keeps from 2^31 counts.
+/// The widest word, b 20: just below 2 counts in Φ, and so 2, and limits that the last bit keeps from 2^31 counts.
 const PAGE_OF_WIDE_WORD: &str = "\
 02 0000 3FF0000000000000 3FF0000000000000 K
-03 0000 3EBFFFFFFFFFFFFF 3EB0000000000000 M
+03 0000 3EBFFFFFFFFFFFFF 3EC0000000000000 M
 04 0000 C09FFFFFFFFFFFFF C09FFFFFFFC00000 M
 05 0000 409FFFFFFFFFFFFF 409FFFFFFFC00000 M
 06 0000 0000000000000000 0000000000000000 K
@@ -824,7 +827,7 @@ fn largest_page(motors: usize, steps: usize) -> String {
     table("05", steps, motors, "3FA0000000000000 0000000000000000 M");
     table("06", 1, 1, "0000000000000000 0000000000000000 K");
     table("07", 12, 1, "3FA0000000000000 3FB0000000000000 M");
-    table("08", 16, 4, "BFA0000000000000 BFB0000000000000 M");
+    table("08", 16, 4, "BFA0000000000000 0000000000000000 M");
     table("09", 4, 1, "BFA0000000000000 0000000000000000 M");
     page
 }
@@ -863,12 +866,12 @@ pub fn page_table() -> Table {
     let junk = Folder { state: Some(b"junk".to_vec()), target: Some(vec![0]), ..folder(SAMPLE.as_bytes()) };
     let missing = Folder { drive: None, ..junk.clone() };
     let mut table = vec![(junk, PAGE_OF_SAMPLE.to_string()), (missing, "refused 04\n".to_string())];
-    for case in pages_of_s().iter().chain(&other_pages()) {
+    for case in pages_of_s().iter().chain(&other_pages()).chain(&nearest::pages()) {
         if let Page(page) = &case.expect {
             table.push((folder(&case.sheet), page.clone()));
         }
     }
-    let refused = refused_sheets().into_iter().chain(stop::sheets());
+    let refused = refused_sheets().into_iter().chain(stop::sheets()).chain(nearest::sheets());
     table.extend(refused.map(|(drive, number)| (folder(&drive), format!("refused {number:02}\n"))));
     table
 }
@@ -960,7 +963,8 @@ pub fn label_table() -> Table {
         (folder(&halves, "000000090000000100000001\n", None), answer_of_s),
         (folder(&beyond_64_bits, "", None), "refused 12\n"),
     ];
-    table.map(|(folder, text)| (folder, text.to_string())).into_iter().chain(stop::folders()).collect()
+    let table = table.map(|(folder, text)| (folder, text.to_string())).into_iter();
+    table.chain(stop::folders()).chain(nearest::folders()).collect()
 }
 
 /// Runs one case through every call it reaches, and holds the outcome to the table's own figures.

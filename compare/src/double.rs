@@ -1,17 +1,15 @@
 //! Doubles to words and back, by whole numbers on the double's bits: no floating-point operation takes part.
 
+use std::cmp::Ordering::{self, *};
+
 use crate::image::{Number, sizes_of_word_fit, top};
 
-#[derive(Clone, Copy, Debug, PartialEq, Eq)]
+#[derive(Clone, Copy, Debug, PartialEq, Eq, PartialOrd, Ord)]
 pub enum Rounding {
     Down,
     Up,
-}
-
-impl Rounding {
-    pub fn opposite(self) -> Rounding {
-        if self == Rounding::Down { Rounding::Up } else { Rounding::Down }
-    }
+    /// To the nearest whole count, a tie to the even one.
+    Nearest,
 }
 
 const FRACTION: u32 = 52;
@@ -42,11 +40,21 @@ fn round(double: u64, bits: u32, rounding: Rounding) -> Option<i128> {
             _ => Some(mantissa << shift),
         };
     }
-    // A shift by 100 already takes away every bit of the mantissa, as any longer one would.
+    // With 100 places a mantissa is far below half a count, and stays so with more.
     let places = (-shift).min(100);
+    let (down, up) = (mantissa >> places, -(-mantissa >> places));
     Some(match rounding {
-        Rounding::Down => mantissa >> places,
-        Rounding::Up => -(-mantissa >> places),
+        Rounding::Down => down,
+        Rounding::Up => up,
+        Rounding::Nearest => {
+            let (above_down, below_up) = (mantissa - (down << places), (up << places) - mantissa);
+            match above_down.cmp(&below_up) {
+                Less => down,
+                Greater => up,
+                Equal if down % 2 == 0 => down,
+                Equal => up,
+            }
+        }
     })
 }
 
@@ -71,6 +79,16 @@ pub fn is_count(double: u64, value: i64, bits: u32) -> bool {
     let places = shift.unsigned_abs().min(64);
     let value = value as i128;
     if shift >= 0 { mantissa << places == value } else { mantissa == value << places }
+}
+
+/// The distance of a double from value / 2^bits, beside half a count.
+pub fn beside_half(double: u64, value: i64, bits: u32) -> Ordering {
+    let (mantissa, exponent) = parts(double).expect("a word's double is a number");
+    let shift = exponent + bits as i32;
+    // With 64 places a mantissa is far below half a count, and stays so with more; shifted upward it is whole.
+    let (places, up) = ((-shift).clamp(0, 64), shift.clamp(0, 64));
+    let distance = (mantissa << up) - ((value as i128) << places);
+    (2 * distance.abs()).cmp(&(1 << places))
 }
 
 /// The bits of the double value / 2^bits.

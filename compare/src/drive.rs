@@ -35,7 +35,7 @@ impl Kind {
             Kind::Intake | Kind::Page => (&[], &["sheet"]),
             Kind::ColdStart => (&[], &["image"]),
             Kind::Solve => (&[], &["image", "state", "target", "start"]),
-            Kind::ToWord => (&["bits", "b", "w", "up"], &[]),
+            Kind::ToWord => (&["bits", "b", "w", "how"], &[]),
             Kind::Inward => (&["low_bits", "high_bits", "b", "w"], &[]),
             Kind::ToDouble => (&["value", "b", "w"], &[]),
         }
@@ -73,7 +73,7 @@ pub trait Drive {
     fn call(&self, kind: Kind, numbers: &[u64], inputs: &[&[u8]], out: &mut [u8]) -> Number;
 }
 
-/// The outcome by document 01 with requests 1 to 6, or that of a false economy.
+/// The outcome by document 01 with requests 1 to 7, or that of a false economy.
 pub fn outcome(kind: Kind, numbers: &[u64], inputs: &[&[u8]], out_len: usize, rules: Rules) -> Outcome {
     let result = match (kind, inputs) {
         (Kind::Intake, [sheet]) => sheet::intake_call(sheet, out_len, rules),
@@ -97,8 +97,12 @@ fn of_result(result: Result<Vec<u8>, Number>) -> Outcome {
 fn conversion(kind: Kind, numbers: &[u64]) -> Outcome {
     let small = |number: u64| number as u32;
     match (kind, numbers) {
-        (Kind::ToWord, &[double, b, w, up]) => {
-            let rounding = if up == 0 { Rounding::Down } else { Rounding::Up };
+        (Kind::ToWord, &[double, b, w, how]) => {
+            let rounding = match how {
+                0 => Rounding::Down,
+                1 => Rounding::Up,
+                _ => Rounding::Nearest,
+            };
             let word = double::to_word(double, small(b), small(w), rounding);
             of_result(word.map(|word| bytes(&[word])).ok_or(5))
         }
@@ -190,14 +194,14 @@ mod linked {
 #[cfg(probe)]
 unsafe fn probe(kind: Kind, numbers: &[u64], out: *mut u8, room: usize) -> Number {
     unsafe extern "C" {
-        fn probe_to_word(bits: u64, b: u32, w: u32, up: u32, out: *mut u8, out_len: usize) -> u32;
+        fn probe_to_word(bits: u64, b: u32, w: u32, how: u32, out: *mut u8, out_len: usize) -> u32;
         fn probe_inward(low: u64, high: u64, b: u32, w: u32, out: *mut u8, out_len: usize) -> u32;
         fn probe_to_double(value: i64, b: u32, w: u32, out: *mut u8, out_len: usize) -> u32;
     }
     let small = |number: u64| number as u32;
     unsafe {
         match (kind, numbers) {
-            (Kind::ToWord, &[bits, b, w, up]) => probe_to_word(bits, small(b), small(w), small(up), out, room),
+            (Kind::ToWord, &[bits, b, w, how]) => probe_to_word(bits, small(b), small(w), small(how), out, room),
             (Kind::Inward, &[low, high, b, w]) => probe_inward(low, high, small(b), small(w), out, room),
             (Kind::ToDouble, &[value, b, w]) => probe_to_double(value as i64, small(b), small(w), out, room),
             _ => panic!("{kind:?} with other arguments than its own"),

@@ -1,20 +1,21 @@
-//! The false economies and lazy drives of document 01, and those of requests 1 to 6. Each must be found on the table of
+//! The false economies and lazy drives of document 01, and those of requests 1 to 7. Each must be found on the table of
 //! cases: a comparison that cannot fail is worthless.
 
 mod loops;
+mod nearest;
 mod stop;
 mod sums;
 
-use crate::cases;
-use crate::double::{Rounding, of_count};
+use crate::cases::{self, Case};
+use crate::double::{Rounding, of_count, to_word};
 use crate::drive::{Drive, Kind, Reference};
 use crate::former::{Former, Without};
 use crate::generate::TABLE_NUMBERS;
 use crate::harness::Harness;
-use crate::image::{HEADER_WORDS, HIGH, LOW, Number, Problem, Sizes, TARGET_GAIN, bytes, open, words};
+use crate::image::{HEADER_WORDS, HIGH, LOW, Number, Problem, Sizes, TARGET_GAIN, TARGET_LIMIT, bytes, open, words};
 use crate::page::{self, GIVEN, KEPT, MARK, PAGE_LINE, PLACE};
-use crate::rules::{Other, Rules, Use};
-use crate::sheet::{self, LINE, hex};
+use crate::rules::{Conversion, Other, Rules, Use};
+use crate::sheet::{self, LINE, hex, number_of};
 
 /// What a lazy drive makes of the reference's outcome.
 type Spoil = Box<dyn Fn(Kind, &[&[u8]], Number, &mut [u8]) -> Number>;
@@ -34,6 +35,19 @@ impl Drive for Economy {
 
 fn rule(name: &str, rules: Rules) -> Economy {
     Economy { name: name.to_string(), rules, spoil: Box::new(|_, _, number, _| number) }
+}
+
+/// A drive that takes other words for the doubles of some kinds.
+fn conversion(name: &str, kinds: &'static [u8], other: Conversion) -> Economy {
+    rule(name, Rules { other_conversion: Some((kinds, other)), ..Rules::default() })
+}
+
+fn down(double: u64, sizes: &Sizes) -> Option<i64> {
+    to_word(double, sizes.bits, sizes.width, Rounding::Down)
+}
+
+fn up(double: u64, sizes: &Sizes) -> Option<i64> {
+    to_word(double, sizes.bits, sizes.width, Rounding::Up)
 }
 
 fn lazy(name: &str, spoil: impl Fn(Kind, &[&[u8]], Number, &mut [u8]) -> Number + 'static) -> Economy {
@@ -93,6 +107,7 @@ fn economies() -> Vec<Economy> {
     economies.extend(sums::economies());
     economies.extend(loops::economies());
     economies.extend(stop::economies());
+    economies.extend(nearest::economies());
     economies.extend(on_pages());
     economies.extend(without_pages());
     economies
@@ -102,7 +117,7 @@ fn of_document_01() -> Vec<Economy> {
     let paper = Rules::default();
     vec![
         rule("rounds toward zero", Rules { round_toward_zero: true, ..paper }),
-        rule("rounds a low limit down", Rules { round_low_limit_down: true, ..paper }),
+        conversion("rounds a low limit down", &[LOW], down),
         rule("takes y from the unheld t", Rules { momentum_from_unclamped: true, ..paper }),
         rule("sets the first q to 1", Rules { first_q_is_one: true, ..paper }),
         rule("leaves out w", Rules { width_left_out: true, ..paper }),
@@ -129,8 +144,8 @@ fn of_document_01() -> Vec<Economy> {
 fn with_targets() -> Vec<Economy> {
     let paper = Rules::default();
     vec![
-        rule("rounds a target table up", Rules { round_target_table_up: true, ..paper }),
-        rule("rounds a target limit down", Rules { round_target_limit_down: true, ..paper }),
+        conversion("rounds a target table up", &[TARGET_GAIN], up),
+        conversion("rounds a target limit down", &[TARGET_LIMIT], down),
         rule("takes a target limit below 0", Rules { target_limit_below_zero: true, ..paper }),
         sums::headroom("leaves the target out of B", sums::without_targets),
         lazy_solve("leaves the target out of h", &[0], |inputs, out| solve_to(inputs, &zero_target(inputs), out)),
@@ -322,10 +337,6 @@ fn without_pages() -> Vec<Economy> {
     ]
 }
 
-fn number_of(digits: &[u8]) -> u64 {
-    u64::from_str_radix(str::from_utf8(digits).expect("digits"), 16).expect("digits")
-}
-
 /// Line 01 as a page's line.
 fn first_line(sheet: &[u8]) -> Vec<u8> {
     let [kind, place, value]: [&[u8]; 3] = [&sheet[..2], &sheet[2..6], &sheet[6..LINE - 1]];
@@ -349,8 +360,9 @@ fn length_before(sheet: &[u8], number: Number, out: &mut [u8]) -> Number {
 
 fn round_otherwise(sheet: &[u8], page: &mut [u8]) {
     let (sizes, body) = sheet::read(sheet, Rules::default()).expect("the sheet is accepted");
-    for (((section, _, _), word), line) in sizes.places().zip(body).zip(page.chunks_mut(PAGE_LINE)) {
-        let away = if section.rounding == Rounding::Down { 1 } else { -1 };
+    for (word, line) in body.into_iter().zip(page.chunks_mut(PAGE_LINE)) {
+        let [given, kept] = [GIVEN, KEPT].map(|part| f64::from_bits(number_of(&line[part])));
+        let away = if given > kept { 1 } else { -1 };
         if line[MARK] == b'M' {
             line[KEPT].copy_from_slice(hex(&of_count(word + away, sizes.bits).to_be_bytes()).as_bytes());
         }
@@ -512,12 +524,10 @@ pub fn count() -> u64 {
     economies().len() as u64
 }
 
-pub fn run(harness: &mut Harness, index: u64) {
+pub fn run(harness: &mut Harness, index: u64, table: &[Case]) {
     let economy = &economies()[index as usize];
     let mut scratch = Harness::quiet(economy);
-    for case in cases::table() {
-        cases::run(&mut scratch, &case);
-    }
+    table.iter().for_each(|case| cases::run(&mut scratch, case));
     println!("a drive that {}: {} differences", economy.name, scratch.failed);
     harness.check(scratch.failed > 0, || format!("  a drive that {} is not found", economy.name));
 }

@@ -1,8 +1,10 @@
 //! The edges of check 12 by request 4: images whose B comes to any undivided sum, and a look at the edge where an image
-//! lies. And such a look for check 17.
+//! lies. And such a look for check 17, and for the numbers of tables.
 
+use crate::double::{Rounding, is_count, to_word};
 use crate::draft::Draft;
-use crate::image::{GAIN, Number, Problem, STATE_LIMIT, Sizes, TARGET_GAIN, TARGET_LIMIT, excludes_zero};
+use crate::generate::beside;
+use crate::image::{COST, GAIN, Number, Problem, STATE_LIMIT, Sizes, TABLES, TARGET_GAIN, TARGET_LIMIT, excludes_zero};
 use crate::random::Random;
 use crate::rules::Use;
 
@@ -189,4 +191,51 @@ fn of_sums(problem: &Problem) -> Vec<&'static str> {
         !accepted && unsigned && with_target,
     ];
     met(SUM_EDGES, holds)
+}
+
+/// What becomes of a table's number that is not a whole count.
+#[derive(Clone, Copy, Debug, PartialEq, Eq, PartialOrd, Ord)]
+pub enum Fate {
+    Tie(Rounding),
+    /// By the last bit no tie.
+    BesideTie(Rounding),
+    Moved(Rounding),
+    /// From beyond top to it.
+    HeldAtTop,
+    /// A tie beyond top, which is 5.
+    Refused,
+}
+
+/// A kind, whether the number is below zero, and what becomes of it.
+pub type TableEdge = (u8, bool, Fate);
+
+/// Those that a run has to meet. H has no entry at top in an accepted image.
+pub fn of_tables() -> Vec<TableEdge> {
+    use Fate::*;
+    use Rounding::{Down, Up};
+    let fates = [Tie(Up), Tie(Down), BesideTie(Up), BesideTie(Down), Moved(Up), Moved(Down), HeldAtTop, Refused];
+    let kinds = TABLES.into_iter().flat_map(|kind| [(kind, false), (kind, true)]);
+    let edges = kinds.flat_map(|(kind, below)| fates.map(|fate| (kind, below, fate)));
+    edges.filter(|&(kind, _, fate)| (kind, fate) != (COST, HeldAtTop)).collect()
+}
+
+/// What became of an accepted sheet's number of a table, by its given and its kept double.
+pub fn of_accepted(sizes: &Sizes, given: u64, kept: u64) -> Vec<Fate> {
+    let word = to_word(kept, sizes.bits, sizes.width, Rounding::Down).expect("a kept double is a word's");
+    // Where the given double lies from the word.
+    let (side, rounding) =
+        if f64::from_bits(given) > f64::from_bits(kept) { (1, Rounding::Down) } else { (-1, Rounding::Up) };
+    let is_tie = |double| is_count(double, 2 * word + side, sizes.bits + 1);
+    let fate = match (is_tie(given), is_tie(beside(given, side))) {
+        (true, _) => Fate::Tie(rounding),
+        (false, true) => Fate::BesideTie(rounding),
+        (false, false) => Fate::Moved(rounding),
+    };
+    let held = word == side * sizes.top();
+    if held { vec![fate, Fate::HeldAtTop] } else { vec![fate] }
+}
+
+/// Is this a tie beyond top?
+pub fn is_refused_tie(sizes: &Sizes, double: u64) -> bool {
+    [1, -1].iter().any(|sign| is_count(double, sign * (2 * sizes.top() + 1), sizes.bits + 1))
 }

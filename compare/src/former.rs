@@ -1,5 +1,5 @@
-//! The drive without one of the requests 3, 4 and 6, once more and on its own: all the rest of document 01 and requests 1
-//! to 6 as plain formulas on raw words, conversions in floating point.
+//! The drive without one of the requests 3, 4, 6 and 7, once more and on its own: all the rest of document 01 and requests
+//! 1 to 7 as plain formulas on raw words, conversions in floating point.
 
 use crate::image::{Number, words};
 
@@ -11,6 +11,8 @@ pub enum Without {
     Request4,
     /// A command need not be able to be zero, and starts as near to it as its limits let it.
     Request6,
+    /// Tables are rounded down.
+    Request7,
 }
 
 /// An image's words, found by the offsets of that drive.
@@ -29,8 +31,8 @@ pub struct Former {
     top: i128,
 }
 
-/// Kind, rows, columns, and whether the numbers are rounded up.
-type Lines = (u8, usize, usize, bool);
+/// Kind, rows, columns, and how the numbers are rounded.
+type Lines = (u8, usize, usize, fn(f64) -> f64);
 
 impl Former {
     pub fn new(words: Vec<i64>, without: Without) -> Former {
@@ -56,7 +58,7 @@ impl Former {
     pub fn read(sheet: &[u8], without: Without) -> Result<Former, Number> {
         let mut former = Former::new(sizes(&frame(sheet, 0)?)?, without);
         let mut line = 0;
-        for (kind, rows, columns, up) in former.layout() {
+        for (kind, rows, columns, round) in former.layout() {
             for (row, column) in places(kind, rows, columns) {
                 line += 1;
                 let frame = frame(sheet, line)?;
@@ -64,7 +66,7 @@ impl Former {
                     return Err(2);
                 }
                 let given = f64::from_be_bytes(frame[3..].try_into().unwrap());
-                let count = former.count(kind, given, up).ok_or(5u32)?;
+                let count = former.count(kind, given, round).ok_or(5u32)?;
                 // A count of minus zero is zero.
                 let kept = (count + 0.0) / former.one as f64;
                 let mark = if given == kept { 'K' } else { 'M' };
@@ -86,22 +88,23 @@ impl Former {
 
     fn layout(&self) -> [Lines; 8] {
         let &Former { motors, n, limits, states, targets, .. } = self;
+        let (down, up): (fn(f64) -> f64, fn(f64) -> f64) = (f64::floor, f64::ceil);
+        let table = if self.without == Without::Request7 { down } else { f64::round_ties_even };
         [
-            (2, n, n, false),
-            (3, n, states, false),
-            (4, motors, limits / motors, true),
-            (5, motors, limits / motors, false),
-            (6, 1, 1, true),
-            (7, states, 1, true),
-            (8, n, targets, false),
-            (9, targets, 1, true),
+            (2, n, n, table),
+            (3, n, states, table),
+            (4, motors, limits / motors, up),
+            (5, motors, limits / motors, down),
+            (6, 1, 1, up),
+            (7, states, 1, up),
+            (8, n, targets, table),
+            (9, targets, 1, up),
         ]
     }
 
     /// The double in counts, rounded. None is 5.
-    fn count(&self, kind: u8, given: f64, up: bool) -> Option<f64> {
-        let scaled = given * self.one as f64;
-        let count = if up { scaled.ceil() } else { scaled.floor() };
+    fn count(&self, kind: u8, given: f64, round: fn(f64) -> f64) -> Option<f64> {
+        let count = round(given * self.one as f64);
         let top = self.top as f64;
         let least = if kind == 7 || kind == 9 { 0.0 } else { -top };
         (least..=top).contains(&count).then_some(count)

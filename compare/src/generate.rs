@@ -4,7 +4,8 @@ use crate::double::{Rounding, of_count};
 use crate::draft::{Draft, keep_former, text};
 use crate::edges;
 use crate::image::{
-    COST, GAIN, HIGH, LOW, MOMENTUM, Number, STATE_LIMIT, Sizes, TARGET_GAIN, TARGET_LIMIT, bytes, momentum_fits,
+    COST, GAIN, HIGH, LOW, MOMENTUM, Number, STATE_LIMIT, Sizes, TABLES, TARGET_GAIN, TARGET_LIMIT, bytes,
+    momentum_fits,
 };
 use crate::page::PAGE_LINE;
 use crate::process::Folder;
@@ -376,7 +377,9 @@ fn word_beyond(random: &mut Random, draft: &mut Draft) {
         let word = -1 - random.magnitude(top - 1);
         limits[random.below(limits.len())] = random.pick(&[-1, word]);
     } else {
-        let (first, length) = random.pick(&[(0, draft.body.len()), draft.sizes.extent(LOW), draft.sizes.extent(HIGH)]);
+        let [low, high] = [LOW, HIGH].map(|kind| draft.sizes.extent(kind));
+        let table = some_table(random, &draft.sizes);
+        let (first, length) = random.pick(&[(0, draft.body.len()), low, high, table]);
         draft.body[first + random.below(length)] = random.pick(&[top + 1, -top - 1, i32::MIN as i64]);
     }
 }
@@ -558,29 +561,53 @@ pub fn beside(double: u64, direction: i64) -> u64 {
 
 /// A double that rounds to the word.
 fn double_near(random: &mut Random, word: i64, bits: u32, rounding: Rounding) -> u64 {
-    let exact = of_count(word, bits);
-    let away = if rounding == Rounding::Down { 1 } else { -1 };
+    match rounding {
+        Rounding::Down => double_from(random, word, bits, 1),
+        Rounding::Up => double_from(random, word, bits, -1),
+        Rounding::Nearest => double_around(random, word, bits),
+    }
+}
+
+/// One between the word and the next count upward or downward, without that count.
+fn double_from(random: &mut Random, word: i64, bits: u32, away: i64) -> u64 {
+    let (exact, next) = (of_count(word, bits), of_count(word + away, bits));
     match random.below(9) {
         0 if word == 0 => 1 << 63,
         1 => beside(exact, away),
-        2 => beside(of_count(word + away, bits), -away),
+        2 => beside(next, -away),
         3 => of_count(2 * word + away, bits + 1),
         4 => of_count((word << 20) + away * random.between(0, (1 << 20) - 1), bits + 20),
-        5 => short_of_next(random, word, away, bits),
+        5 => short_of(random, word, away, [exact, next]),
         _ => exact,
     }
 }
 
-/// Any double from the word's on that does not reach the next count: beside 0 every exponent is about as frequent.
-fn short_of_next(random: &mut Random, word: i64, away: i64, bits: u32) -> u64 {
+/// One less than half a count from the word, often by the last bit alone, or a tie that goes to it.
+fn double_around(random: &mut Random, word: i64, bits: u32) -> u64 {
+    let away = random.sign();
+    let (exact, tie) = (of_count(word, bits), of_count(2 * word + away, bits + 1));
+    match random.below(12) {
+        0 if word == 0 => 1 << 63,
+        0..3 if word % 2 == 0 => tie,
+        1 | 3 => beside(tie, -away),
+        4 => beside(exact, away),
+        5 => of_count(4 * word + away, bits + 2),
+        6 => of_count((word << 20) + away * random.between(0, (1 << 19) - 1), bits + 20),
+        7 => short_of(random, word, away, [exact, tie]),
+        _ => exact,
+    }
+}
+
+/// Any double from the word's on that does not reach the other: beside 0 every exponent is about as frequent.
+fn short_of(random: &mut Random, word: i64, away: i64, ends: [u64; 2]) -> u64 {
     let negative = word < 0 || word == 0 && away < 0;
     // Magnitudes are in the order of their bits.
-    let [own, next] = [word, word + away].map(|count| of_count(count.abs(), bits) as i64);
-    let magnitude = if own < next { random.between(own, next - 1) } else { random.between(next + 1, own) };
+    let [own, other] = ends.map(|double| (double << 1 >> 1) as i64);
+    let magnitude = if own < other { random.between(own, other - 1) } else { random.between(other + 1, own) };
     u64::from(negative) << 63 | magnitude as u64
 }
 
-/// Doubles at the end of the word, on both sides of it, and those that are no number.
+/// Doubles about zero and the end of the word, whole counts, ties and quarters among them, and those that are no number.
 pub fn edge_doubles(bits: u32, width: u32) -> Vec<u64> {
     let top = crate::image::top(width);
     let mut edges = vec![0x7FF0_0000_0000_0001, 0x7FF8_0000_0000_0000, 0xFFF8_0000_0000_0000, u64::MAX];
@@ -588,34 +615,77 @@ pub fn edge_doubles(bits: u32, width: u32) -> Vec<u64> {
     {
         edges.extend([positive.to_bits(), (-positive).to_bits()]);
     }
-    for count in [top, top + 1, top + 2, 2 * top, 1, 2] {
+    for count in [1, 2, 3, top - 1, top, top + 1, top + 2, 2 * top] {
         for value in [count, -count] {
-            let double = of_count(value, bits);
-            edges.extend([double, beside(double, 1), beside(double, -1), of_count(2 * value + 1, bits + 1)]);
+            let (double, tie) = (of_count(value, bits), of_count(2 * value + value.signum(), bits + 1));
+            for double in [double, tie] {
+                edges.extend([double, beside(double, 1), beside(double, -1)]);
+            }
+            edges.push(of_count(4 * value + value.signum(), bits + 2));
         }
     }
-    edges.extend([0, 1 << 63, 1, 1 << 63 | 1, of_count(1, bits + 1), of_count(-1, bits + 1)]);
+    for tie in [of_count(1, bits + 1), of_count(-1, bits + 1)] {
+        edges.extend([tie, beside(tie, 1), beside(tie, -1)]);
+    }
+    edges.extend([0, 1 << 63, 1, 1 << 63 | 1]);
     edges
 }
 
+/// Doubles about the ends of what a table takes: the ties beyond the word, the last bit short of them, and quarters.
+fn table_ends(bits: u32, width: u32) -> [u64; 6] {
+    let top = crate::image::top(width);
+    let [above, below] = [1, -1].map(|sign| {
+        let tie = of_count(sign * (2 * top + 1), bits + 1);
+        [tie, beside(tie, -sign), of_count(sign * (4 * top + 1), bits + 2)]
+    });
+    [above[0], above[1], above[2], below[0], below[1], below[2]]
+}
+
 /// A sheet's frames, spoilt as planned, and the draft they were made from.
-fn frames_of(random: &mut Random, plan: &Plan) -> (Draft, Vec<Frame>) {
-    let sizes = plan.sizes(random);
+fn frames_of(random: &mut Random, plan: &Plan, sizes: Sizes) -> (Draft, Vec<Frame>) {
     let mut draft = accepted(random, sizes);
-    for &number in &plan.numbers {
+    // Of 5 there is one, a word's or a line's: of two the later would never decide.
+    let by_line = random.one_in(2);
+    for &number in plan.numbers.iter().filter(|&&number| number != 5 || !by_line) {
         spoil_tables(random, &mut draft, number);
     }
     let places: Vec<_> = draft.sizes.places().collect();
     let mut frames = draft.frames(|i| double_near(random, draft.body[i], draft.sizes.bits, places[i].0.rounding));
-    for &number in &plan.numbers {
+    if random.one_in(2) {
+        mirror(&draft, &mut frames);
+    }
+    for &number in plan.numbers.iter().filter(|&&number| number != 5 || by_line) {
         spoil_frames(random, &draft.sizes, &mut frames, number);
     }
     (draft, frames)
 }
 
+/// Makes H symmetric by its doubles too, wherever its words are.
+fn mirror(draft: &Draft, frames: &mut [Frame]) {
+    let n = draft.sizes.commands();
+    for (i, j) in (0..n).flat_map(|i| (0..i).map(move |j| (i, j))) {
+        if draft.body[i * n + j] == draft.body[j * n + i] {
+            let double = frames[1 + i * n + j][3..].to_vec();
+            frames[1 + j * n + i][3..].copy_from_slice(&double);
+        }
+    }
+}
+
 /// A sheet's text, spoilt as planned, and the draft it was made from.
 pub fn sheet_case(random: &mut Random, plan: &Plan) -> (Draft, Vec<u8>) {
-    let (draft, frames) = frames_of(random, plan);
+    let sizes = plan.sizes(random);
+    sheet_of_sizes(random, plan, sizes)
+}
+
+/// The same with one command or two, and with few inputs: a single number of a table then often decides.
+pub fn small_sheet(random: &mut Random, plan: &Plan) -> (Draft, Vec<u8>) {
+    let (steps, targets) = (1 + random.below(2), random.below(2));
+    let sizes = Sizes { motors: 1, steps, states: 1, targets, ..plan.sizes(random) };
+    sheet_of_sizes(random, plan, sizes)
+}
+
+fn sheet_of_sizes(random: &mut Random, plan: &Plan, sizes: Sizes) -> (Draft, Vec<u8>) {
+    let (draft, frames) = frames_of(random, plan, sizes);
     let mut text = text(&frames);
     for &number in &plan.numbers {
         spoil_text(random, &mut text, number);
@@ -649,12 +719,30 @@ fn spoil_frames(random: &mut Random, sizes: &Sizes, frames: &mut Vec<Frame>, num
                 frames[0][7..9].copy_from_slice(&iterations.to_be_bytes());
             }
         }
-        5 if line > 0 => {
-            let edges = edge_doubles(sizes.bits, sizes.width);
-            frames[line][3..].copy_from_slice(&random.pick(&edges).to_be_bytes());
+        5 if random.one_in(2) => {
+            let (first, length) = some_table(random, sizes);
+            let double = random.pick(&table_ends(sizes.bits, sizes.width));
+            put_double(frames, 1 + first + random.below(length), double);
+        }
+        5 => {
+            let double = random.pick(&edge_doubles(sizes.bits, sizes.width));
+            put_double(frames, line, double);
         }
         _ => {}
     }
+}
+
+/// Line 01 has none, and other spoiling may have taken the line away.
+fn put_double(frames: &mut [Frame], line: usize, double: u64) {
+    if let Some(frame) = frames.get_mut(line).filter(|frame| frame[0] != 1) {
+        frame[3..].copy_from_slice(&double.to_be_bytes());
+    }
+}
+
+/// The extent of a table that has entries.
+fn some_table(random: &mut Random, sizes: &Sizes) -> (usize, usize) {
+    let tables = TABLES.map(|kind| sizes.extent(kind));
+    random.pick(if sizes.targets == 0 { &tables[..2] } else { &tables })
 }
 
 /// The lines of the target table and limits.
@@ -724,7 +812,9 @@ fn spoil_limit_lines(random: &mut Random, sizes: &Sizes, frames: &mut Vec<Frame>
 
 /// A sheet of the former layout, and the draft whose first step's limits it has.
 pub fn former_sheet(random: &mut Random) -> (Draft, Vec<u8>) {
-    let (draft, mut frames) = frames_of(random, &Plan::nothing());
+    let plan = Plan::nothing();
+    let sizes = plan.sizes(random);
+    let (draft, mut frames) = frames_of(random, &plan, sizes);
     keep_former(&mut frames);
     (draft, text(&frames))
 }

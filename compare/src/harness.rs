@@ -5,11 +5,11 @@ use std::fs::File;
 use std::os::unix::fs::FileExt;
 
 use crate::drive::{Call, Drive, Kind, Outcome, outcome};
-use crate::edges;
-use crate::image::{HEADER_WORDS, Number, Problem, Sizes, words};
+use crate::edges::{self, Fate, TableEdge};
+use crate::image::{HEADER_WORDS, Number, Problem, Sizes, TABLES, words};
 use crate::page::{self, PAGE_LINE};
 use crate::rules::Rules;
-use crate::sheet::hex;
+use crate::sheet::{self, hex, number_of};
 
 const GUARD: u8 = 0xA5;
 const GUARD_LEN: usize = 32;
@@ -93,8 +93,11 @@ pub struct Harness<'a> {
     pub inputs: BTreeSet<(i64, i64)>,
     /// The nu and N of those whose limits change from step to step.
     pub changing: BTreeSet<(i64, i64)>,
-    /// How often a random solve lay at an edge of check 12 or 17, or was another than before request 4 or 6.
+    /// How often a random solve lay at an edge of check 12 or 17, or was another than before request 4 or 6, and a random
+    /// sheet another than before request 7.
     pub edges: BTreeMap<&'static str, u64>,
+    /// What became of the numbers of tables in random sheets.
+    pub tables: BTreeSet<TableEdge>,
     /// The kinds of accepted pages by their last digit, and the marks.
     pub marks: BTreeSet<(u8, u8)>,
     /// The group and index under way; also in a file, for whoever finds the program crashed.
@@ -117,6 +120,7 @@ impl<'a> Harness<'a> {
             inputs: BTreeSet::new(),
             changing: BTreeSet::new(),
             edges: BTreeMap::new(),
+            tables: BTreeSet::new(),
             marks: BTreeSet::new(),
             place: ("", 0),
             place_file,
@@ -148,7 +152,10 @@ impl<'a> Harness<'a> {
             (Kind::Solve, None) if self.is_random() && matches!(expected.number, 12 | 17) => {
                 self.cover_edges(&problem_of(&call.inputs[0]), expected.number);
             }
-            (Kind::Page, Some(page)) => self.cover_page(page),
+            (Kind::Page, Some(page)) => self.cover_page(&call.inputs[0], page),
+            (Kind::Intake | Kind::Page, None) if self.is_random() && expected.number == 5 => {
+                self.cover_refused(&call.inputs[0]);
+            }
             _ => {}
         }
         let agrees = observed.as_ref() == Ok(&expected);
@@ -158,7 +165,7 @@ impl<'a> Harness<'a> {
 
     /// Problems made by hand would hide a size or an edge that the generator never finds.
     fn is_random(&self) -> bool {
-        !matches!(self.place.0, "cases" | "damage")
+        !self.quiet && !matches!(self.place.0, "cases" | "damage")
     }
 
     fn cover_solve(&mut self, image: &[u8]) {
@@ -182,9 +189,26 @@ impl<'a> Harness<'a> {
         *self.edges.entry(edge).or_insert(0) += 1;
     }
 
-    fn cover_page(&mut self, page: &[u8]) {
+    fn cover_page(&mut self, sheet: &[u8], page: &[u8]) {
+        let sizes = sheet::sizes_of(sheet).expect("the sheet is accepted");
         for line in page.chunks(PAGE_LINE) {
-            self.marks.insert((line[page::KIND][1], line[page::MARK]));
+            let (kind, mark) = (line[page::KIND][1], line[page::MARK]);
+            self.marks.insert((kind, mark));
+            let kind = kind - b'0';
+            if mark == b'M' && TABLES.contains(&kind) && self.is_random() {
+                let [given, kept] = [page::GIVEN, page::KEPT].map(|part| number_of(&line[part]));
+                for fate in edges::of_accepted(&sizes, given, kept) {
+                    self.tables.insert((kind, given >> 63 == 1, fate));
+                }
+            }
+        }
+    }
+
+    /// A sheet that is 5.
+    fn cover_refused(&mut self, sheet: &[u8]) {
+        let (sizes, kind, double) = sheet::refused_double(sheet).expect("the sheet is 5");
+        if TABLES.contains(&kind) && edges::is_refused_tie(&sizes, double) {
+            self.tables.insert((kind, double >> 63 == 1, Fate::Refused));
         }
     }
 

@@ -2,7 +2,7 @@
 
 use std::ops::Index;
 
-use crate::double::Rounding::{self, Down, Up};
+use crate::double::Rounding::{self, Down, Nearest, Up};
 use crate::rules::{Row, Rules, Use};
 
 /// The number of a refusal; 0 where a call is accepted.
@@ -68,6 +68,8 @@ pub const MOMENTUM: u8 = 6;
 pub const STATE_LIMIT: u8 = 7;
 pub const TARGET_GAIN: u8 = 8;
 pub const TARGET_LIMIT: u8 = 9;
+/// The kinds that request 7 rounds to the nearest count.
+pub const TABLES: [u8; 3] = [COST, GAIN, TARGET_GAIN];
 
 impl Sizes {
     /// None is number 3.
@@ -117,13 +119,13 @@ impl Sizes {
         let n = self.commands();
         let section = |kind, rows, columns, rounding| Section { kind, rows, columns, rounding };
         [
-            section(COST, n, n, Down),
-            section(GAIN, n, self.states, Down),
+            section(COST, n, n, Nearest),
+            section(GAIN, n, self.states, Nearest),
             section(LOW, self.motors, self.steps, Up),
             section(HIGH, self.motors, self.steps, Down),
             section(MOMENTUM, 1, 1, Up),
             section(STATE_LIMIT, self.states, 1, Up),
-            section(TARGET_GAIN, n, self.targets, Down),
+            section(TARGET_GAIN, n, self.targets, Nearest),
             section(TARGET_LIMIT, self.targets, 1, Up),
         ]
     }

@@ -1,4 +1,4 @@
-//! The second program: document 01 with requests 1 to 6 implemented on its own, beside the static library, the label
+//! The second program: document 01 with requests 1 to 7 implemented on its own, beside the static library, the label
 //! program and the page program.
 
 mod big;
@@ -36,7 +36,8 @@ compare --label and compare --page act as the label and the page program in the 
 const COUNT: u64 = 100_000;
 const LONG_COUNT: u64 = 20 * COUNT;
 /// From this count on a run has to have met every number of every call, every size, every nr with every n and with every
-/// nx, limits that change along every N, every edge of checks 12 and 17, and all that requests 4 and 6 change.
+/// nx, limits that change along every N, every edge of checks 12 and 17, every way to round a table, and all that requests
+/// 4, 6 and 7 change.
 const COVERING_COUNT: u64 = 20_000;
 
 struct Options {
@@ -174,6 +175,23 @@ fn require_cover(harness: &mut Harness) {
         let met = harness.edges.get(edge).copied().unwrap_or(0);
         println!("random solves, {edge}: {met}");
         harness.check(met > 0, || format!("  no random solve: {edge}"));
+    }
+    require_tables(harness);
+}
+
+/// What rounding did to the numbers of tables, and to the numbers of sheets.
+fn require_tables(harness: &mut Harness) {
+    let all = edges::of_tables();
+    let met = all.iter().filter(|edge| harness.tables.contains(edge)).count();
+    println!("random sheets: {met} of {} ways to round a table's number", all.len());
+    for edge in all {
+        let met = harness.tables.contains(&edge);
+        harness.check(met, || format!("  no number of a table (kind, below zero, fate): {edge:?}"));
+    }
+    for (_, _, edge) in trials::ROUNDED {
+        let met = harness.edges.get(edge).copied().unwrap_or(0);
+        println!("random sheets, {edge}: {met}");
+        harness.check(met > 0, || format!("  no random sheet: {edge}"));
     }
 }
 

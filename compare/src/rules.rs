@@ -1,5 +1,5 @@
-//! Where a false economy departs from the rules of document 01 and requests 1, 3, 4, 5 and 6; those of request 2 change
-//! the page alone.
+//! Where a false economy departs from the rules of document 01 and requests 1, 3, 4, 5, 6 and 7; those of request 2
+//! change the page alone.
 
 use crate::image::{Problem, Sizes};
 
@@ -38,18 +38,20 @@ pub type Terms = fn(&mut Row) -> Vec<&mut i128>;
 /// How often a loop adds the term of an index, given the number of terms.
 pub type Times = fn(usize, usize) -> i128;
 
+/// The word of a double, or None for 5.
+pub type Conversion = fn(u64, &Sizes) -> Option<i64>;
+
 /// The default is the papers' rules.
 #[derive(Clone, Copy, Default)]
 pub struct Rules {
     pub round_toward_zero: bool,
-    pub round_low_limit_down: bool,
     pub momentum_from_unclamped: bool,
     pub y_rounded_once: bool,
     pub first_q_is_one: bool,
     pub width_left_out: bool,
-    pub round_target_table_up: bool,
-    pub round_target_limit_down: bool,
     pub target_limit_below_zero: bool,
+    /// Another conversion for the lines of some kinds.
+    pub other_conversion: Option<(&'static [u8], Conversion)>,
     /// Another c of n and of nx + nr.
     pub other_c: Option<fn(usize, usize) -> usize>,
     /// Another loop over the terms of a sum, in the row that `other_t` is given.

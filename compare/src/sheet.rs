@@ -1,7 +1,7 @@
 //! The design sheet: its lines, the checks 1 to 5, and the accepted sheet's image.
 
 use crate::double::to_word;
-use crate::image::{LOW, Number, Problem, Section, Sizes, TARGET_GAIN, TARGET_LIMIT, bytes};
+use crate::image::{Number, Problem, Section, Sizes, bytes};
 use crate::rules::Rules;
 
 pub const FRAME: usize = 11;
@@ -22,12 +22,24 @@ pub fn digit(byte: u8) -> Option<u8> {
 
 /// Pairs of digits to bytes; None for any other byte.
 pub fn unhex(digits: &[u8]) -> Option<Vec<u8>> {
-    digits.chunks_exact(2).map(|pair| Some(digit(pair[0])? << 4 | digit(pair[1])?)).collect()
+    // Not collected, which would begin without room: a run reads very many lines.
+    let mut bytes = Vec::with_capacity(digits.len() / 2);
+    for pair in digits.chunks_exact(2) {
+        bytes.push(digit(pair[0])? << 4 | digit(pair[1])?);
+    }
+    Some(bytes)
+}
+
+/// The number of at most 16 digits.
+pub fn number_of(digits: &[u8]) -> u64 {
+    u64::from_str_radix(str::from_utf8(digits).expect("digits"), 16).expect("digits")
 }
 
 pub fn hex(bytes: &[u8]) -> String {
     let digit = |value: u8| b"0123456789ABCDEF"[value as usize] as char;
-    bytes.iter().flat_map(|byte| [digit(byte >> 4), digit(byte & 15)]).collect()
+    let mut digits = String::with_capacity(2 * bytes.len());
+    bytes.iter().for_each(|byte| digits.extend([digit(byte >> 4), digit(byte & 15)]));
+    digits
 }
 
 /// Takes the next line off the text. Nothing left is 4, a line that is cut or malformed is 1.
@@ -62,22 +74,40 @@ pub fn read(mut text: &[u8], rules: Rules) -> Result<(Sizes, Vec<i64>), Number> 
         if frame[..3] != [section.kind, row as u8, column as u8] {
             return Err(2);
         }
-        let double = u64::from_be_bytes(frame[3..].try_into().unwrap());
-        body.push(word(&sizes, &section, double, rules).ok_or(5u32)?);
+        body.push(word(&sizes, &section, value(&frame), rules).ok_or(5u32)?);
     }
     if text.is_empty() { Ok((sizes, body)) } else { Err(4) }
 }
 
+/// The double of a frame.
+fn value(frame: &Frame) -> u64 {
+    u64::from_be_bytes(frame[3..].try_into().unwrap())
+}
+
 fn word(sizes: &Sizes, section: &Section, double: u64, rules: Rules) -> Option<i64> {
-    let economy = match section.kind {
-        LOW => rules.round_low_limit_down,
-        TARGET_GAIN => rules.round_target_table_up,
-        TARGET_LIMIT => rules.round_target_limit_down,
-        _ => false,
+    let word = match rules.other_conversion {
+        Some((kinds, other)) if kinds.contains(&section.kind) => other(double, sizes)?,
+        _ => to_word(double, sizes.bits, sizes.width, section.rounding)?,
     };
-    let rounding = if economy { section.rounding.opposite() } else { section.rounding };
-    let word = to_word(double, sizes.bits, sizes.width, rounding)?;
     section.admits(word, rules).then_some(word)
+}
+
+/// The sizes that line 01 has.
+pub fn sizes_of(mut text: &[u8]) -> Result<Sizes, Number> {
+    sizes(&next_frame(&mut text)?)
+}
+
+/// The sizes of a sheet, and the kind and the double at which it is 5.
+pub fn refused_double(text: &[u8]) -> Option<(Sizes, u8, u64)> {
+    let sizes = sizes_of(text).ok()?;
+    let mut lines = &text[LINE..];
+    for (section, _, _) in sizes.places() {
+        let double = value(&next_frame(&mut lines).ok()?);
+        if word(&sizes, &section, double, Rules::default()).is_none() {
+            return Some((sizes, section.kind, double));
+        }
+    }
+    None
 }
 
 /// The sheet's sizes and body words, unless a check up to 12 refuses it.

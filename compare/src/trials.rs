@@ -1,7 +1,9 @@
 //! The groups of trials. A trial draws from its own random stream, so that any one can be run alone.
 
+use std::cmp::Ordering;
 use std::fs::{canonicalize, create_dir_all};
 use std::path::Path;
+use std::rc::Rc;
 
 use crate::big::Big;
 use crate::cases;
@@ -13,13 +15,14 @@ use crate::former::{Former, Without};
 use crate::generate::{self, Plan, SolveCase};
 use crate::harness::{Harness, Lent};
 use crate::image::{
-    GAIN, HEADER_WORDS, Number, Problem, STATE_LIMIT, Sizes, bytes, products, sizes_of_word_fit, top, words,
+    GAIN, HEADER_WORDS, Number, Problem, STATE_LIMIT, Sizes, TABLES, bytes, products, sizes_of_word_fit, top, words,
 };
 use crate::label;
 use crate::page::{self, PAGE_LINE};
 use crate::process::Program;
 use crate::random::Random;
-use crate::sheet::{LINE, MOST_LINES};
+use crate::rules::{Rules, Use};
+use crate::sheet::{self, LINE, MOST_LINES, hex, number_of, unhex};
 use crate::solve::{ErrorBound, Exact, Rounded};
 
 type Trial = Box<dyn Fn(&mut Harness, u64, &mut Random)>;
@@ -37,7 +40,8 @@ pub fn run(harness: &mut Harness, group: &Group, index: u64) {
 
 pub fn groups(count: u64, has_conversions: bool, work: &Path) -> Vec<Group> {
     let group = |name, count, trial: fn(&mut Harness, u64, &mut Random)| Group { name, count, trial: Box::new(trial) };
-    let table = cases::table();
+    let table = Rc::new(cases::table());
+    let lent = table.clone();
     let mut groups = vec![
         group("itself", 1, itself),
         Group {
@@ -45,7 +49,11 @@ pub fn groups(count: u64, has_conversions: bool, work: &Path) -> Vec<Group> {
             count: table.len() as u64,
             trial: Box::new(move |harness, index, _| cases::run(harness, &table[index as usize])),
         },
-        group("economies", economies::count(), |harness, index, _| economies::run(harness, index)),
+        Group {
+            name: "economies",
+            count: economies::count(),
+            trial: Box::new(move |harness, index, _| economies::run(harness, index, &lent)),
+        },
         group("damage", damaged_bytes(), damage),
         group("solve", count, solve),
         group("cold_start", count / 4, cold_start),
@@ -110,6 +118,33 @@ fn intake(harness: &mut Harness, index: u64, random: &mut Random) {
         let holds = outcome.written == Some(image);
         harness.check(holds, || "  the sheet of an accepted problem does not give its image".to_string());
     }
+    if let Some(image) = outcome.written {
+        check_tables(harness, &sheet, &image);
+    }
+}
+
+/// Request 7 by whole numbers, on an accepted sheet: every word of a table is within half a count of its double, and
+/// even at a tie.
+fn check_tables(harness: &mut Harness, sheet: &[u8], image: &[u8]) {
+    let (sizes, body) = sizes_and_body(&words(image));
+    let numbers = sheet.chunks(LINE).skip(1).map(|line| number_of(&line[6..LINE - 1])).zip(body);
+    let mut tables = sizes.places().zip(numbers).filter(|((section, _, _), _)| TABLES.contains(&section.kind));
+    let holds = tables.all(|(_, (double, word))| is_nearest(word, double::beside_half(double, word, sizes.bits)));
+    harness.check(holds, || "  a table's word is not the nearest".to_string());
+}
+
+/// May a double be rounded to the word that is at such a distance?
+fn is_nearest(word: i64, beside_half: Ordering) -> bool {
+    match beside_half {
+        Ordering::Less => true,
+        Ordering::Equal => word % 2 == 0,
+        Ordering::Greater => false,
+    }
+}
+
+fn sizes_and_body(words: &[i64]) -> (Sizes, Vec<i64>) {
+    let (header, body) = words.split_at(HEADER_WORDS);
+    (Sizes::of_words(header).expect("the sizes are right"), body.to_vec())
 }
 
 fn page(harness: &mut Harness, index: u64, random: &mut Random) {
@@ -142,6 +177,9 @@ fn put_back(harness: &mut Harness, sheet: &[u8], page: &[u8]) {
     let mut image = |sheet: &[u8]| harness.compare(&Call::on_buffers(Kind::Intake, &[sheet], image_len)).written;
     let (old, new) = (image(sheet), image(&kept));
     harness.check(old.is_some() && old == new, || "  the kept doubles have another image".to_string());
+    if let Some(image) = old {
+        check_tables(harness, sheet, &image);
+    }
     let outcome = harness.compare(&Call::on_buffers(Kind::Page, &[&kept], page.len()));
     let settled = |(old, new): (&[u8], &[u8])| {
         new[page::MARK] == b'K' && new[page::GIVEN] == old[page::KEPT] && new[page::KEPT] == old[page::KEPT]
@@ -151,20 +189,26 @@ fn put_back(harness: &mut Harness, sheet: &[u8], page: &[u8]) {
     harness.check(holds, || "  the kept doubles move again".to_string());
 }
 
-/// Small problems, whose bytes are damaged one by one.
-fn victims() -> [Draft; 5] {
-    [cases::sample(), cases::two_motors(), cases::two_targets(), cases::motors_and_steps(), cases::one_sided()]
+/// Small problems and their sheets, whose bytes are damaged one by one. The last sheet has ties.
+fn victims() -> Vec<(Draft, Vec<u8>)> {
+    let drafts =
+        [cases::sample(), cases::two_motors(), cases::two_targets(), cases::motors_and_steps(), cases::one_sided()];
+    let with_sheet = |draft: Draft| {
+        let sheet = draft.sheet();
+        (draft, sheet)
+    };
+    drafts.map(with_sheet).into_iter().chain([cases::with_ties()]).collect()
 }
 
 fn damaged_bytes() -> u64 {
-    victims().iter().map(|draft| (draft.sheet().len() + draft.image().len()) as u64).sum()
+    victims().iter().map(|(draft, sheet)| (sheet.len() + draft.image().len()) as u64).sum()
 }
 
 /// Every other value of one byte of a sheet or an image, and the text or image cut there.
 fn damage(harness: &mut Harness, index: u64, _: &mut Random) {
     let mut index = index as usize;
-    for draft in victims() {
-        let (sheet, image, n) = (draft.sheet(), draft.image(), draft.sizes.commands());
+    for (draft, sheet) in victims() {
+        let (image, n) = (draft.image(), draft.sizes.commands());
         if index < sheet.len() {
             for sheet in damaged(&sheet, index) {
                 harness.compare(&Call::on_buffers(Kind::Intake, &[&sheet], image.len()));
@@ -273,7 +317,7 @@ fn is_near(rounded: &Rounded, bound: &ErrorBound, exact: &Exact) -> bool {
     (0..rounded.z.len()).all(|k| exact.is_near(k, rounded.z[k], bound.e[k]))
 }
 
-/// Requests 3, 4 and 6, each beside the drive that lacks it alone.
+/// Requests 3, 4, 6 and 7, each beside the drive that lacks it alone.
 fn former(harness: &mut Harness, index: u64, random: &mut Random) {
     one_step(harness, index, random);
     former_layout(harness, random);
@@ -283,6 +327,7 @@ fn former(harness: &mut Harness, index: u64, random: &mut Random) {
     rounded_terms(harness, &generate::single_case(random, &plan));
     stopped_sheet(harness, index, random);
     stopped_image(harness, index, random);
+    rounded_tables(harness, index, random);
 }
 
 /// In turn nothing, and a number of the tables.
@@ -439,6 +484,19 @@ fn stopped_image(harness: &mut Harness, index: u64, random: &mut Random) {
     stopped(harness, &call, &former, |former| Ok(bytes(&former.solve([&state, &target, &start])?)));
 }
 
+/// What a call answered before, the length of its buffer included.
+fn before(
+    former: &Result<Former, Number>,
+    out_len: usize,
+    answer: impl Fn(&Former) -> Result<Vec<u8>, Number>,
+) -> Result<Vec<u8>, Number> {
+    let former = former.as_ref().map_err(|&number| number)?;
+    match former.number() {
+        0 => answer(former).and_then(|written| if written.len() == out_len { Ok(written) } else { Err(15) }),
+        number => Err(number),
+    }
+}
+
 /// Where every command can be zero, a call answers as before; elsewhere numbers up to 7 stay, and all else is 17.
 fn stopped(
     harness: &mut Harness,
@@ -446,13 +504,7 @@ fn stopped(
     former: &Result<Former, Number>,
     answer: impl Fn(&Former) -> Result<Vec<u8>, Number>,
 ) {
-    let before = match former {
-        Err(number) => Err(*number),
-        Ok(former) => match former.number() {
-            0 => answer(former).and_then(|written| if written.len() == call.out_len { Ok(written) } else { Err(15) }),
-            number => Err(number),
-        },
-    };
+    let before = before(former, call.out_len, answer);
     let is_stopped = !matches!(before, Err(..=7)) && former.as_ref().is_ok_and(|former| !former.can_stop());
     let number = before.as_ref().err().copied().unwrap_or(0);
     if let (true, Kind::Solve, Some((_, edge))) = (is_stopped, call.kind, STOPPED.iter().find(|s| s.0 == number)) {
@@ -461,6 +513,101 @@ fn stopped(
     let expected = if is_stopped { Err(17) } else { before };
     let found = result(harness.compare(call));
     harness.check(found == expected, || format!("  by the drive without request 6 it is {expected:?}"));
+}
+
+/// The numbers of sheets before request 7 and with it, of those that a run has to meet.
+pub const ROUNDED: [(Number, Number, &str); 10] = [
+    (0, 0, "accepted, other tables before request 7"),
+    (5, 0, "accepted, 5 before request 7"),
+    (8, 0, "accepted, 8 before request 7"),
+    (9, 0, "accepted, 9 before request 7"),
+    (10, 0, "accepted, 10 before request 7"),
+    (11, 0, "accepted, 11 before request 7"),
+    (12, 0, "accepted, 12 before request 7"),
+    (0, 5, "5, accepted before request 7"),
+    (0, 10, "10, accepted before request 7"),
+    (0, 12, "12, accepted before request 7"),
+];
+
+/// Request 7 beside the drive without it: in turn sheets with whole counts in their tables, and any.
+fn rounded_tables(harness: &mut Harness, index: u64, random: &mut Random) {
+    let plan = Plan::new(random, index / 2, &generate::INTAKE_NUMBERS);
+    let (draft, sheet) = generate::sheet_case(random, &plan);
+    let image_len = generate::out_len(random, &plan, draft.image().len());
+    let page_len = generate::page_len(random, &plan, &draft.sizes);
+    match index % 2 {
+        0 => whole_tables(harness, &with_whole_tables(&sheet), [image_len, page_len]),
+        _ => moved_tables(harness, &sheet, image_len),
+    }
+    for plan in [5, 8, 9, 10, 11, 12].map(Plan::only).into_iter().chain([Plan::nothing()]) {
+        let (draft, sheet) = generate::small_sheet(random, &plan);
+        moved_tables(harness, &sheet, draft.image().len());
+    }
+}
+
+/// The sheet with each number of a table rounded down to a whole count.
+fn with_whole_tables(sheet: &[u8]) -> Vec<u8> {
+    let Ok(sizes) = sheet::sizes_of(sheet) else {
+        return sheet.to_vec();
+    };
+    let one = sizes.one() as f64;
+    let whole = |line: &[u8]| {
+        let frame = unhex(line.strip_suffix(b"\n").filter(|digits| digits.len() == LINE - 1)?)?;
+        let double = f64::from_be_bytes(frame[3..].try_into().unwrap());
+        let count = (double * one).floor() / one;
+        TABLES.contains(&frame[0]).then(|| [&line[..6], hex(&count.to_be_bytes()).as_bytes(), b"\n"].concat())
+    };
+    sheet.chunks(LINE).flat_map(|line| whole(line).unwrap_or(line.to_vec())).collect()
+}
+
+/// With whole counts in the tables number, image, page and answer are as before.
+fn whole_tables(harness: &mut Harness, sheet: &[u8], lengths: [usize; 2]) {
+    let former = Former::read(sheet, Without::Request7);
+    for (kind, out_len) in [Kind::Intake, Kind::Page].into_iter().zip(lengths) {
+        let expected = before(&former, out_len, |former| Ok(former_output(former, kind)));
+        let found = result(harness.compare(&Call::on_buffers(kind, &[sheet], out_len)));
+        harness.check(found == expected, || format!("  by the drive without request 7 it is {expected:?}"));
+    }
+    let Ok(former) = former.and_then(Former::accepted) else {
+        return;
+    };
+    let (sizes, body) = sizes_and_body(&former.words);
+    let problem = Problem::new(sizes, &body, Rules::default());
+    let highs = |ranges: Vec<(i64, i64)>| bytes(&ranges.iter().map(|range| range.1).collect::<Vec<i64>>());
+    let (state, target) = (highs(problem.state_ranges()), highs(problem.target_ranges()));
+    let start = highs(problem.command_ranges(Use::Start));
+    let expected = former.solve([&state, &target, &start]).map(|answer| bytes(&answer));
+    let lent: [&[u8]; 4] = [&bytes(&former.words), &state, &target, &start];
+    let found = result(harness.compare(&Call::on_buffers(Kind::Solve, &lent, 2 * start.len())));
+    harness.check(found == expected, || format!("  the drive without request 7 answered {expected:?}"));
+}
+
+/// With any counts the numbers from 1 to 7 and 17 stay, unless 5 comes or goes; and in an accepted sheet whose lines the
+/// former drive takes too, a table's word is the former one or one more, and all other words are the same.
+fn moved_tables(harness: &mut Harness, sheet: &[u8], image_len: usize) {
+    let former = Former::read(sheet, Without::Request7);
+    let old = before(&former, image_len, |former| Ok(bytes(&former.words)));
+    let new = result(harness.compare(&Call::on_buffers(Kind::Intake, &[sheet], image_len)));
+    let [was, now] = [&old, &new].map(|result| result.as_ref().err().copied().unwrap_or(0));
+    let by_tables = |number| matches!(number, 0 | 8..=12 | 15);
+    let mut holds = was == now || was == 5 || now == 5 || by_tables(was) && by_tables(now);
+    if let (Ok(former), Ok(image)) = (&former, &new) {
+        holds &= are_moved(&former.words, &words(image));
+    }
+    let met = ROUNDED.into_iter().find(|edge| (edge.0, edge.1) == (was, now));
+    if let Some((_, _, edge)) = met.filter(|_| old != new) {
+        harness.meet_edge(edge);
+    }
+    harness.check(holds, || format!("  not a change of request 7: without it it was {old:?}"));
+}
+
+fn are_moved(old: &[i64], new: &[i64]) -> bool {
+    let (sizes, body) = sizes_and_body(new);
+    let (header, old_body) = old.split_at(HEADER_WORDS);
+    let mut pairs = sizes.places().zip(old_body.iter().zip(&body));
+    header == sizes.words()
+        && old_body.len() == body.len()
+        && pairs.all(|((section, _, _), (old, new))| new == old || TABLES.contains(&section.kind) && *new == old + 1)
 }
 
 /// The commands' words, and the bounds, which are unsigned.
@@ -487,12 +634,14 @@ fn wide_formats() -> Vec<(u32, u32)> {
     with_extremes(24).flat_map(|b| with_extremes(36).map(move |w| (b, w))).collect()
 }
 
-/// A double of any bits, or one near a word.
+/// A double of any bits, one near a word, or one at a tie or beside it.
 fn any_double(random: &mut Random, b: u32, w: u32) -> u64 {
     let bits = random.next();
+    let tie = double::of_count(2 * random.magnitude(top(w) + 1) * random.sign() + 1, b + 1);
+    let beside = generate::beside(tie, random.sign());
     let (b, w) = (b as i64, w as i64);
     let exponent = (1023 + random.between(-b - 4, w - b + 2)) as u64;
-    random.pick(&[bits, bits & !(0x7FF << 52) | exponent << 52])
+    random.pick(&[bits, bits & !(0x7FF << 52) | exponent << 52, tie, beside])
 }
 
 fn doubles(random: &mut Random, b: u32, w: u32) -> Vec<u64> {
@@ -504,8 +653,9 @@ fn doubles(random: &mut Random, b: u32, w: u32) -> Vec<u64> {
 fn to_word(harness: &mut Harness, index: u64, random: &mut Random) {
     let (b, w) = formats()[index as usize];
     for bits in doubles(random, b, w) {
-        for up in 0..2 {
-            harness.compare(&Call::on_numbers(Kind::ToWord, &[bits, b as u64, w as u64, up]));
+        // Down, up, and with every other number to the nearest.
+        for how in [0, 1, 2, 3, u32::MAX] {
+            harness.compare(&Call::on_numbers(Kind::ToWord, &[bits, b as u64, w as u64, how as u64]));
         }
     }
 }
@@ -536,6 +686,7 @@ fn to_double(harness: &mut Harness, index: u64, random: &mut Random) {
 fn itself(harness: &mut Harness, _: u64, random: &mut Random) {
     big_agrees(harness, random);
     conversions_agree(harness, random);
+    nearest_agrees(harness, random);
     signs_agree(harness, random);
     sample_agrees(harness);
     programs_agree(harness);
@@ -545,6 +696,7 @@ fn itself(harness: &mut Harness, _: u64, random: &mut Random) {
     running_sums_agree(harness);
     former_agrees(harness);
     without_stop_agrees(harness);
+    without_nearest_agrees(harness);
     let mut lent = Lent::new(&[1, 2, 3]);
     harness.check(lent.guards_hold(), || "  a guard does not hold by itself".to_string());
     lent.write_beside();
@@ -589,6 +741,20 @@ fn without_stop_agrees(harness: &mut Harness) {
     harness.check(holds, || "  the drive without request 6 is another".to_string());
 }
 
+/// The drive without request 7 on S: half a count below zero in Φ is −1, 127.5 counts are 127, and −127.25 are 5.
+fn without_nearest_agrees(harness: &mut Harness) {
+    let read = |double: &str| {
+        let sheet = cases::SAMPLE.replace("3FF0000000000000", double);
+        let former = Former::read(sheet.as_bytes(), Without::Request7)?;
+        Ok((former.words[9], former.page.lines().nth(1).unwrap_or_default().to_string()))
+    };
+    let line = |doubles: &str| format!("03 0000 {doubles} M");
+    let holds = read("BFA0000000000000") == Ok((-1, line("BFA0000000000000 BFB0000000000000")))
+        && read("401FE00000000000") == Ok((127, line("401FE00000000000 401FC00000000000")))
+        && read("C01FD00000000000") == Err(5u32);
+    harness.check(holds, || "  the drive without request 7 is another".to_string());
+}
+
 /// Big numbers beside 128-bit ones.
 fn big_agrees(harness: &mut Harness, random: &mut Random) {
     for _ in 0..1000 {
@@ -609,7 +775,8 @@ fn conversions_agree(harness: &mut Harness, random: &mut Random) {
     for (b, w) in formats() {
         for bits in doubles(random, b, w) {
             let scaled = f64::from_bits(bits) * (1u64 << b) as f64;
-            for (rounding, rounded) in [(Rounding::Down, scaled.floor()), (Rounding::Up, scaled.ceil())] {
+            let nearest = (Rounding::Nearest, scaled.round_ties_even());
+            for (rounding, rounded) in [(Rounding::Down, scaled.floor()), (Rounding::Up, scaled.ceil()), nearest] {
                 let word = (rounded.abs() <= top(w) as f64).then_some(rounded as i64);
                 let found = double::to_word(bits, b, w, rounding);
                 harness.check(found == word, || format!("  {bits:016X} at b {b}, W {w} is {found:?}"));
@@ -619,6 +786,24 @@ fn conversions_agree(harness: &mut Harness, random: &mut Random) {
             let double = (value as f64 / (1u64 << b) as f64).to_bits();
             let found = double::of_word(value, b, w);
             harness.check(found == Ok(double), || format!("  {value} at b {b}, W {w} is {found:?}"));
+        }
+    }
+}
+
+/// The nearest word is within half a count of its double, and at a tie one of its neighbours is as far from it; else none
+/// is so near.
+fn nearest_agrees(harness: &mut Harness, random: &mut Random) {
+    for (b, w) in formats() {
+        for bits in doubles(random, b, w) {
+            let Some(word) = double::to_word(bits, b, w, Rounding::Nearest) else {
+                continue;
+            };
+            let [own, below, above] = [word, word - 1, word + 1].map(|word| double::beside_half(bits, word, b));
+            let as_far = [below, above].iter().filter(|&&far| far == Ordering::Equal).count();
+            let holds = is_nearest(word, own)
+                && [below, above].iter().all(|&far| far != Ordering::Less)
+                && as_far == usize::from(own == Ordering::Equal);
+            harness.check(holds, || format!("  {bits:016X} at b {b} is not nearest to {word}"));
         }
     }
 }

@@ -1,11 +1,11 @@
 //! Request 6's false economies: 17 in another place, for other limits or in some calls alone, and other cold starts.
 
-use super::{Economy, is_limit, lazy, lazy_solve, number_of, rule, solve, write};
+use super::{Economy, is_limit, lazy, lazy_solve, rule, solve, write};
 use crate::drive::{Drive, Kind, Reference};
 use crate::generate::TABLE_NUMBERS;
 use crate::image::{HEADER_WORDS, HIGH, LOW, Number, Problem, Sizes, bytes, excludes_zero, open, words};
 use crate::rules::{Other, Rules, Use};
-use crate::sheet::{self, LINE};
+use crate::sheet::{self, LINE, number_of};
 
 pub fn economies() -> Vec<Economy> {
     let tested = [in_other_places(), at_some_commands(), with_other_tests(), in_some_calls()];
