@@ -50,7 +50,7 @@ enum gantry_number {
     GANTRY_WRONG_LINE = 2,     /* sheet: not the kind, row and column due here, or a zero byte of line 01 is not 0 */
     GANTRY_BAD_SIZE = 3,       /* a size out of its range, nr among them, or image word 7 not 0 */
     GANTRY_BAD_END = 4,        /* sheet: a line missing, or a byte after the last line due */
-    GANTRY_BAD_VALUE = 5,      /* NaN, infinity, a value outside the word, or a negative limit of state or target */
+    GANTRY_BAD_VALUE = 5,      /* NaN, infinity, a value outside the word once rounded, or a negative limit of state or target */
     GANTRY_BAD_LENGTH = 6,     /* image: fewer than 32 bytes, or not the length that its sizes give */
     GANTRY_LIMITS_CROSSED = 7, /* a low limit above its high limit */
     GANTRY_NOT_SYMMETRIC = 8,  /* the cost table is not symmetric */
@@ -67,11 +67,12 @@ enum gantry_number {
 
 /* Reads a design sheet and writes its image. image_len must be the image's exact length (15), which is known from the
  * sheet's first line: GANTRY_IMAGE_BYTES. Numbers: 0, 1 to 5, 7 to 12, 15, 17.
- * The entries of the tables become words to the nearest, a tie to the even one; a low limit is rounded up, a high one down,
- * and the step factor and the limits of state and target up. An image written here is accepted by the calls below.
- * A sheet with one low and one high a motor, as it was before limits went by the step, is 2 where N is above 1, and its
- * stored image is 6 below; with N 1 the image is as it was, but for 17, and so is the sheet where the entries of its tables
- * are whole counts: before they went to the nearest, they were rounded down. */
+ * An entry of a table becomes the nearest count, at a tie the even one; a low limit is rounded up, a high one down, the
+ * step factor and the limits of state and target up. An image written here is accepted by the calls below.
+ * Entries of tables were rounded down until they went to the nearest: a sheet may have another image now, unless they are
+ * whole counts; a stored image is as it was. A sheet with one low and one high a motor, as it was before limits went by the
+ * step, is 2 where N is above 1, and its stored image is 6 below; with N 1 both are as they were, but for 17 and for what
+ * is said of the tables. */
 uint32_t gantry_intake(const uint8_t *sheet, size_t sheet_len, uint8_t *image, size_t image_len);
 
 /* Reads a design sheet and writes its design page, which shows what rounding did: a line of 43 characters and byte 10 for

@@ -235,7 +235,7 @@ table =
     ∷ pages (changed 1 0x0200003FA0000000000001) 264 0
     ∷ pages (changed 1 0x0200003FF0800000000000) 264 0
     ∷ pages (changed 1 0x0200003FF0800000000001) 264 10
-    -- the page: the least double below zero in Φ moves to plus zero; a target table of −24.5 counts, and a target limit of 10.5
+    -- the page: the double next below zero in Φ moves to plus zero, minus zero is K; a target table of −24.5 counts, and a target limit of 10.5
     ∷ prints (changed 2 0x0300008000000000000001) 1 "03 0000 8000000000000001 0000000000000000 M"
     ∷ prints (changed 2 0x0300008000000000000000) 1 "03 0000 8000000000000000 0000000000000000 K"
     ∷ prints (text targetLines) 6 "08 0000 BFF8800000000000 BFF8000000000000 M"

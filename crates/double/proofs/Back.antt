@@ -18,7 +18,8 @@ use Rattle.word.proofs.Format.{format, word-small}
 use Rattle.double.specs.Double.{scalable, rounded, accepted, convert, isNegative, doubleValue, answer, doubleAnswer, HasQuotient, power}
 use Rattle.double.specs.declared.Converted.the-variants.{Word}
 use Rattle.double.proofs.Rules.{IsRule, rule-integer}
-use Rattle.double.proofs.Value.{abs-signed, signed-abs, signed-mul, quotient-of-value, ofInt-value}
+use Rattle.double.proofs.Signs.{abs-signed, signed-abs, signed-mul}
+use Rattle.double.proofs.Value.{quotient-of-value, ofInt-value}
 use Rattle.double.proofs.Scale.{round-part}
 
 -- ---- the machine's quotient is one rounding of the exact one

@@ -18,7 +18,8 @@ use Rattle.double.specs.declared.Converted.the-variants.{Word, Refused}
 use Rattle.double.specs.declared.Limits.{Limits}
 use Rattle.double.specs.declared.LimitWords.the-variants.{Pair, NoPair}
 use Rattle.double.proofs.Rules.{IsRule, rule-large}
-use Rattle.double.proofs.Value.{two32, abs-signed, quotient-of-value, large-below, large-above}
+use Rattle.double.proofs.Signs.{abs-signed}
+use Rattle.double.proofs.Value.{two32, quotient-of-value, large-below, large-above}
 use Rattle.double.proofs.Scale.{scale-exact, scale-over}
 
 -- ---- the answer, by its test

@@ -1,6 +1,8 @@
 -- The laws that other crates cite, and those that several functions' proofs cite.
+pub mod Signs
 pub mod Nearest
 pub mod Rules
+pub mod FromFloor
 pub mod Value
 pub mod Scale
 pub mod Edge

@@ -11,15 +11,15 @@ use lib.Ieee.{Float, nan, inf, fin, nearest}
 use lib.Ieee as binary
 use lib.Ieee.Fits.{down-pos}
 use lib.Ieee.Nearest.{closest, closest-same}
-use lib.IntN.{ℤ, pos, negsuc, negℤ, natAbs, _+ℤ_, _-ℤ_, _*ℤ_}
-use lib.Signed.{_≤ℤ_, _<ℤ_, ltZ, ltZ-yes, ltZ-no}
-use Rattle.integer.specs.Parts.{Ex, up, dn, int, nat, val, plus, minus, _⊕_, _⊖_, _⊙_, _⊡_, neg}
+use lib.IntN.{ℤ, pos, negsuc, negℤ, natAbs, _-ℤ_, _*ℤ_}
+use lib.Signed.{_≤ℤ_, ltZ, ltZ-yes, ltZ-no}
+use Rattle.integer.specs.Parts.{Ex, up, dn, int, nat, val, plus, minus, _⊖_, _⊡_, neg}
 use Rattle.integer.proofs.Parts.{eq!, eq?, le!, le?, lt?, abs!, abs-both, abs-parts}
-use Rattle.integer.proofs.Laws.{≤ℤ-antisym}
+use Rattle.integer.proofs.Laws.{≤ℤ-antisym, abs-neg}
 use Rattle.integer.proofs.Tests.{of-true}
-use Rattle.integer.proofs.Floor.{floor-le, floor-gt}
-use Rattle.double.specs.Double.{signed, roundDown, roundNearest, scalable, rounded}
+use Rattle.double.specs.Double.{signed, roundNearest, scalable, rounded}
 use Rattle.double.specs.Nearest.{distance, IsNearest, IsNearestCount}
+use Rattle.double.proofs.Signs.{abs-signed, signed-not}
 
 -- ---- of naturals: c × d is at most half of d away from a, and by less where c is odd
 pub record Closest (a d c : ℕ) : Type 0 where
@@ -51,16 +51,11 @@ closest-is a {d} D =
         record { lower = omega arith; upper = omega arith; odd-less = λ o. (omega arith, omega arith) }
 
 -- ---- of integers
-twice-abs : (v : Ex) {k : ℕ} → 2 * plus v ≤ 2 * minus v + k → 2 * minus v ≤ 2 * plus v + k → 2 * natAbs (val v) ≤ k
+pub twice-abs : (v : Ex) {k : ℕ} → 2 * plus v ≤ 2 * minus v + k → 2 * minus v ≤ 2 * plus v + k → 2 * natAbs (val v) ≤ k
 twice-abs v {k} h i = let a = abs! v {n = k / 2} (omega arith) (omega arith) in omega arith
 
-abs-neg : (z : ℤ) → natAbs (negℤ z) ≡ natAbs z
-abs-neg (pos zero) = refl
-abs-neg (pos (suc n)) = refl
-abs-neg (negsuc n) = refl
-
 -- what is at most half away has none nearer
-nearest-by : (z n : ℤ) {d : ℕ} → 2 * distance z d n ≤ d → (2 * distance z d n ≡ d → natAbs n % 2 ≡ 0) → IsNearest z d n
+pub nearest-by : (z n : ℤ) {d : ℕ} → 2 * distance z d n ≤ d → (2 * distance z d n ≡ d → natAbs n % 2 ≡ 0) → IsNearest z d n
 nearest-by z n {d} h t = record { within-half = h; no-nearer = λ k. by k (ltZ k n) refl (ltZ n k) refl; tie-even = t }
   where
     by : (k : ℤ) (u : Bool) → ltZ k n ≡ u → (v : Bool) → ltZ n k ≡ v → distance z d n ≤ distance z d k
@@ -83,12 +78,8 @@ signed-nearest s a c {d} k D = nearest-by (signed s a) (signed s c) (half s d (k
     half false j h i = twice-abs (nat c ⊡ d ⊖ nat a) (omega arith) (omega arith)
     half true j h i = twice-abs (neg (nat c) ⊡ d ⊖ neg (nat a)) (omega arith) (omega arith)
 
-    abs : (s : Bool) → natAbs (signed s c) ≡ c
-    abs false = refl
-    abs true = abs-neg (pos c)
-
     by : (r : ℕ) → c % 2 ≡ r → 2 * distance (signed s a) d (signed s c) ≡ d → natAbs (signed s c) % 2 ≡ 0
-    by zero e t = rw (abs s) e
+    by zero e t = rw (abs-signed s c) e
     by (suc zero) e t = let l = k .odd-less e in let h = half s (d - 1) (omega arith) (omega arith) in absurd (omega arith)
     by (suc (suc r)) e t = absurd (omega arith)
 
@@ -159,45 +150,18 @@ module _ (n z : ℤ) {d : ℕ} (D : 0 < d) where
       let j : up r + dn n < up n + dn r + 1 = lt-of-mul-lt-mul-right d (omega arith) in
       le! (int r) (int n) (omega arith)
 
--- ---- from the floor q: it or q + 1, by the side of their middle on which z / d lies
-module _ (z : ℤ) {d : ℕ} (D : 0 < d) where
-  abbrev q : ℤ
-  q = roundDown z d
-
-  -- twice the middle
-  abbrev odd : ℤ
-  odd = pos 2 *ℤ q +ℤ pos 1
-
-  pub nearest-before : (z *ℤ pos 2) <ℤ (odd *ℤ pos d) → q ≡ roundNearest z d
-  nearest-before h =
-      let i = lt? (int z ⊡ 2) ((2 ⊙ int q ⊕ nat 1) ⊡ d) h in
-      let l = le? (int q ⊡ d) (int z) (floor-le z D) in
-      let w : 2 * distance z d q ≤ d - 1 = twice-abs (int q ⊡ d ⊖ int z) (omega arith) (omega arith) in
-      nearest-only z q D (nearest-by z q (omega arith) (λ t. absurd (omega arith)))
-
-  pub nearest-after : (odd *ℤ pos d) <ℤ (z *ℤ pos 2) → q +ℤ pos 1 ≡ roundNearest z d
-  nearest-after h =
-      let i = lt? ((2 ⊙ int q ⊕ nat 1) ⊡ d) (int z ⊡ 2) h in
-      let l = lt? (int z) (int q ⊡ d ⊕ nat d) (floor-gt z D) in
-      let w : 2 * distance z d (q +ℤ pos 1) ≤ d - 1 = twice-abs ((int q ⊕ nat 1) ⊡ d ⊖ int z) (omega arith) (omega arith) in
-      nearest-only z (q +ℤ pos 1) D (nearest-by z (q +ℤ pos 1) (omega arith) (λ t. absurd (omega arith)))
-
-  module _ (m : z *ℤ pos 2 ≡ odd *ℤ pos d) where
-    pub nearest-even : natAbs q % 2 ≡ 0 → q ≡ roundNearest z d
-    nearest-even e =
-        let i = eq? (int z ⊡ 2) ((2 ⊙ int q ⊕ nat 1) ⊡ d) m in
-        nearest-only z q D (nearest-by z q (twice-abs (int q ⊡ d ⊖ int z) (omega arith) (omega arith)) (λ t. e))
-
-    pub nearest-odd : natAbs q % 2 ≡ 1 → q +ℤ pos 1 ≡ roundNearest z d
-    nearest-odd e =
-        let i = eq? (int z ⊡ 2) ((2 ⊙ int q ⊕ nat 1) ⊡ d) m in
-        let a = eq? (int (q +ℤ pos 1)) (int q ⊕ nat 1) refl in
-        nearest-only z (q +ℤ pos 1) D
-        (nearest-by z (q +ℤ pos 1) (twice-abs ((int q ⊕ nat 1) ⊡ d ⊖ int z) (omega arith) (omega arith)) (λ t. omega (arith, abs-parts q, abs-parts (q +ℤ pos 1))))
-
 -- ---- of a double
 pub nearest-count : (b : ℕ) (x : Float) → scalable b x ≡ true → IsNearestCount b x (rounded roundNearest b x)
 unfolding scalable rounded
 nearest-count b nan h = absurd (of-true h)
 nearest-count b (inf s) h = absurd (of-true h)
 nearest-count b (fin s m e) h = nearest-is (signed s (m * binary.up e * 2 ^ b)) (down-pos e)
+
+-- the opposite number has the opposite count
+pub count-negates : (b : ℕ) (x : Float) → rounded roundNearest b (binary.neg x) ≡ negℤ (rounded roundNearest b x)
+unfolding rounded binary.neg
+count-negates b nan = refl
+count-negates b (inf s) = refl
+count-negates b (fin s m e) =
+    let n = m * binary.up e * 2 ^ b in
+    ap (λ (z : ℤ). roundNearest z (binary.down e)) (signed-not s n) ∙ nearest-negates (signed s n) (down-pos e)

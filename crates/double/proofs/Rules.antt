@@ -79,7 +79,7 @@ is-rule Down = down-rule
 is-rule Up = up-rule
 is-rule Nearest = nearest-rule
 
--- ---- every rule keeps an integer, takes no value that is k or more to one that is less, and none that is k or less to one that is more
+-- ---- every rule keeps an integer, takes no value that is k or more in magnitude to one that is less, and none that is k or less to one that is more
 pub rule-integer : (rule : ℤ → ℕ → ℤ) → IsRule rule → (n : ℤ) {d : ℕ} → 0 < d → rule (n *ℤ pos d) d ≡ n
 rule-integer rule R n D = ≤ℤ-antisym (R .not-above n _ D (≤ℤ-of-≡ refl)) (R .not-below n _ D (≤ℤ-of-≡ refl))
 
@@ -112,26 +112,3 @@ module _ (z n : ℤ) {d : ℕ} (D : 0 < d) (k : Within1 z n d) where
 
   pub down-same : (n *ℤ pos d) ≤ℤ z → n ≡ roundDown z d
   down-same h = sym (floor-unique z n D h (k .upper))
-
--- ---- up by the floor q: q + 1 where something is left
-module _ (z : ℤ) {d : ℕ} (D : 0 < d) where
-  abbrev q : ℤ
-  q = roundDown z d
-
-  -- the ceiling is the only integer of which `up-lower` and `up-upper` hold
-  up-unique : (n : ℤ) → z ≤ℤ (n *ℤ pos d) → (n *ℤ pos d) <ℤ (z +ℤ pos d) → n ≡ roundUp z d
-  up-unique n h k =
-      let a = le? (int z) (int n ⊡ d) h in
-      let b = lt? (int n ⊡ d) (int z ⊕ nat d) k in
-      sym
-      (ap negℤ (floor-unique (negℤ z) (negℤ n) D (le! (neg (int n) ⊡ d) (neg (int z)) (omega arith)) (lt! (neg (int z)) (neg (int n) ⊡ d ⊕ nat d) (omega arith)))
-      ∙ negℤ-negℤ n)
-
-  pub up-more : (q *ℤ pos d) <ℤ z → q +ℤ pos 1 ≡ roundUp z d
-  up-more h =
-      let a = lt? (int q ⊡ d) (int z) h in
-      let b = lt? (int z) (int q ⊡ d ⊕ nat d) (down-upper z D) in
-      up-unique (q +ℤ pos 1) (le! (int z) ((int q ⊕ nat 1) ⊡ d) (omega arith)) (lt! ((int q ⊕ nat 1) ⊡ d) (int z ⊕ nat d) (omega arith))
-
-  pub up-same : z ≤ℤ (q *ℤ pos d) → q ≡ roundUp z d
-  up-same h = let a = le? (int q ⊡ d) (int z) (down-lower z D) in up-unique q h (lt! (int q ⊡ d) (int z ⊕ nat d) (omega arith))

@@ -14,7 +14,7 @@ use lib.Ieee.Nearest.{div-same}
 use Rattle.integer.specs.Parts.{int, nat, neg, _⊡_}
 use Rattle.integer.proofs.Parts.{eq!, eq?}
 use Rattle.double.specs.Double.{signed, HasQuotient}
-use Rattle.double.proofs.Value.{abs-signed, signed-mul}
+use Rattle.double.proofs.Signs.{abs-signed, signed-mul}
 
 -- ---- signs and magnitudes
 

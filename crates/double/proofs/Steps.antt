@@ -12,9 +12,10 @@ use Rattle.integer.specs.Parts.{int, nat, _⊕_, _⊙_}
 use Rattle.integer.proofs.Parts.{abs!, abs?}
 use Rattle.integer.proofs.Laws.{≤ℤ-antisym}
 use Rattle.double.specs.Double.{roundDown, roundUp, roundNearest, rounded, power, HasQuotient}
-use Rattle.double.proofs.Rules.{down-rule, rule-small, down-less, down-same, up-more, up-same}
-use Rattle.double.proofs.Nearest.{nearest-before, nearest-after, nearest-even, nearest-odd}
-use Rattle.double.proofs.Value.{abs-signed, signed-mul, quotient-of-value, less-integer, more-integer, ltZ-true, ltZ-false, num, den, Small, Truncated}
+use Rattle.double.proofs.Rules.{down-rule, rule-small, down-less, down-same}
+use Rattle.double.proofs.FromFloor.{middle, up-more, up-same, nearest-before, nearest-after, nearest-even, nearest-odd}
+use Rattle.double.proofs.Signs.{abs-signed, signed-mul}
+use Rattle.double.proofs.Value.{quotient-of-value, less-integer, more-integer, ltZ-true, ltZ-false, num, den, Small, Truncated}
 use Rattle.double.proofs.Scale.{scale-exact}
 
 -- ---- the floor, by y truncated
@@ -38,14 +39,12 @@ module _ (y : Float) (n : ℤ) (a : Small y) (t : Truncated y n) where
 abbrev pub twice : Float → Float
 twice y = mul binary64 y (power 1)
 
--- twice the middle of q and q + 1
-abbrev pub middle : ℤ → ℤ
-middle q = pos 2 *ℤ q +ℤ pos 1
-
 pub record ByFloor (y : Float) (q : ℤ) : Type 0 where
   pub small : natAbs q ≤ 2 ^ 32
-  pub up-left : lt (ofInt binary64 q) y ≡ false → q ≡ rounded roundUp 0 y
-  pub up-right : lt (ofInt binary64 q) y ≡ true → q +ℤ pos 1 ≡ rounded roundUp 0 y
+  -- q as a double beside y: nothing or something is left above q
+  pub ceiling-same : lt (ofInt binary64 q) y ≡ false → q ≡ rounded roundUp 0 y
+  pub ceiling-more : lt (ofInt binary64 q) y ≡ true → q +ℤ pos 1 ≡ rounded roundUp 0 y
+  -- y before the middle, after it, and on it with q even or odd
   pub before : lt (twice y) (ofInt binary64 (middle q)) ≡ true → q ≡ rounded roundNearest 0 y
   pub after : lt (ofInt binary64 (middle q)) (twice y) ≡ true → q +ℤ pos 1 ≡ rounded roundNearest 0 y
   pub even : lt (twice y) (ofInt binary64 (middle q)) ≡ false → lt (ofInt binary64 (middle q)) (twice y) ≡ false → natAbs q % 2 ≡ 0 → q ≡ rounded roundNearest 0 y
@@ -64,8 +63,8 @@ twice-quotient (fin s m e) f a =
 by-floor-of : (y : Float) → T (fits binary64 y) → (a : Small y) → ByFloor y (roundDown (num y) (den y))
 by-floor-of y f a = record {
   small = s;
-  up-left = λ h. up-same z D (ltZ-false (sym m ∙ h)) ∙ sym (a .as-fraction roundUp);
-  up-right = λ h. up-more z D (ltZ-true (sym m ∙ h)) ∙ sym (a .as-fraction roundUp);
+  ceiling-same = λ h. up-same z D (ltZ-false (sym m ∙ h)) ∙ sym (a .as-fraction roundUp);
+  ceiling-more = λ h. up-more z D (ltZ-true (sym m ∙ h)) ∙ sym (a .as-fraction roundUp);
   before = λ h. nearest-before z D (ltZ-true (sym l2 ∙ h)) ∙ sym (a .as-fraction roundNearest);
   after = λ h. nearest-after z D (ltZ-true (sym m2 ∙ h)) ∙ sym (a .as-fraction roundNearest);
   even = λ h k e. nearest-even z D (level h k) e ∙ sym (a .as-fraction roundNearest);

@@ -18,22 +18,10 @@ use Rattle.integer.specs.Parts.{int, nat, _⊕_, _⊡_, neg}
 use Rattle.integer.proofs.Parts.{eq!, lt!, lt?}
 use Rattle.integer.proofs.Laws.{scale-mono}
 use Rattle.double.specs.Double.{signed, isNegative, rounded, HasQuotient}
+use Rattle.double.proofs.Signs.{abs-signed, signed-abs, signed-mul}
 use Rattle.double.proofs.Rules.{Within1}
 
--- ---- a sign and a magnitude
-pub abs-signed : (s : Bool) (n : ℕ) → natAbs (signed s n) ≡ n
-abs-signed false n = refl
-abs-signed true zero = refl
-abs-signed true (suc n) = refl
-
-pub signed-abs : (z : ℤ) → signed (isNegative z) (natAbs z) ≡ z
-signed-abs (pos n) = refl
-signed-abs (negsuc n) = refl
-
-pub signed-mul : (s : Bool) (n d : ℕ) → signed s (n * d) ≡ signed s n *ℤ pos d
-signed-mul false n d = refl
-signed-mul true n d = eq! (neg (nat (n * d))) (neg (nat n) ⊡ d) (omega arith)
-
+-- ---- the value by the library's relation
 pub quotient-of-value : (x : Float) (s : Bool) (a c : ℕ) → HasValue x s a c → HasQuotient x (signed s a) c
 quotient-of-value nan s a c v = v
 quotient-of-value (inf t) s a c v = v

@@ -1,4 +1,4 @@
--- Design doubles and words, as "Words and sizes" and "The design sheet" of document 01 relate them. They compute. Assumes nothing.
+-- Design doubles and words, as "Words and sizes" and "The design sheet" of document 01 relate them, and request 7. They compute. Assumes nothing.
 -- A finite double `fin s m e` of lib.Ieee is ±m × 2^e, and 2^e is the fraction up e / down e: so it is exactly ±(m × up e) / down e.
 use Prim.Native.Nat.{ℕ, _*_, _^_}
 use mathlib.Core.Path.{_≡_}

@@ -26,7 +26,7 @@ up : map (λ (n : ℕ). convert roundUp 4 8 (ofBits binary64 n)) (0xbfa0_0000_00
 unfolding accepted ofBits floor
 up = refl
 
--- request 7: "−0.03125 at b 4 becomes 0, 0.09375 becomes 2"; −1.5, 2.5 and −2.5 counts, and 2.5 with one bit more; the least double below zero
+-- request 7: "−0.03125 at b 4 becomes 0, 0.09375 becomes 2"; −1.5, 2.5 and −2.5 counts, and 2.5 with one bit more; the double next below zero
 nearest : map (λ (n : ℕ). convert roundNearest 4 8 (ofBits binary64 n)) (0xbfa0_0000_0000_0000 ∷ 0x3fb8_0000_0000_0000 ∷ 0xbfb8_0000_0000_0000 ∷ 0x3fc4_0000_0000_0000 ∷ 0xbfc4_0000_0000_0000 ∷ 0x3fc4_0000_0000_0001 ∷ 0x8000_0000_0000_0001 ∷ [])
     ≡ Word (pos 0) ∷ Word (pos 2) ∷ Word (negsuc 1) ∷ Word (pos 2) ∷ Word (negsuc 1) ∷ Word (pos 3) ∷ Word (pos 0) ∷ []
 unfolding accepted ofBits

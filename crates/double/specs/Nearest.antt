@@ -29,11 +29,15 @@ IsNearestCount b (fin s m e) n = IsNearest (signed s (m * up e * 2 ^ b)) (down e
 
 -- ---- the edge of the word
 
+-- twice top + 1/2, in parts of 1 / d
+abbrev pub twiceEdge : ℕ → ℕ → ℕ
+twiceEdge w d = (2 * top w + 1) * d
+
 -- the magnitude of a finite double, "scaled by 2^b", is below top + 1/2
 abbrev pub belowEdge : ℕ → ℕ → Float → Bool
 belowEdge b w nan = false
 belowEdge b w (inf s) = false
-belowEdge b w (fin s m e) = ltb (2 * (m * up e * 2 ^ b)) ((2 * top w + 1) * down e)
+belowEdge b w (fin s m e) = ltb (2 * (m * up e * 2 ^ b)) (twiceEdge w (down e))
 
 -- "and only then tested for 5": a double is accepted exactly there, for top is odd, and the tie goes to top + 1
 abbrev pub AcceptedBelow : ℕ → ℕ → Float → Type 0

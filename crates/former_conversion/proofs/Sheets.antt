@@ -23,6 +23,7 @@ use Rattle.sheet.specs.Sheet.{endNumber, headNumber, headWords, linesNumber, li
 use Rattle.sheet.proofs.Reach.{first-cong}
 use Rattle.intake.specs.Intake.{designNumber, intakeNumber}
 use Rattle.design_page.specs.Page.{headPage, linesPage, pageLine, pageNumber, sheetPage}
+use Rattle.page_text.specs.Text.{pageText}
 use Rattle.label_text.specs.Label.{labelText}
 use Rattle.former_conversion.specs.Former as former
 use Rattle.former_conversion.specs.Kept.{SameSheet, WholeTables, wholeIn}
@@ -93,13 +94,22 @@ module _ (s : List ℕ) (whole : WholeTables s) where
   unfolding intakeNumber former.intakeNumber
   intake-same room = rw (design-same, sheet-image)
 
+  sheet-page : sheetPage s ≡ former.sheetPage s
+  unfolding sheetPage former.sheetPage
+  sheet-page = after-same (headOf (lineAt s 0)) whole .2
+
+  page-number-same : (room : ℕ) → pageNumber s room ≡ former.pageNumber s room
+  unfolding pageNumber former.pageNumber
+  page-number-same room = rw design-same
+
 -- ---- the law, for the accepted sheets and the refused ones
 pub whole-tables : (sheet state target : List ℕ) (room : ℕ) → WholeTables sheet → SameSheet sheet state target room
-unfolding pageNumber former.pageNumber sheetPage former.sheetPage labelText former.labelText
+unfolding pageText former.pageText labelText former.labelText
 whole-tables sheet state target room w = record {
   number = intake-same sheet w room;
   image = sheet-image sheet w;
-  page-number = rw (design-same sheet w);
-  page = after-same sheet w (headOf (lineAt sheet 0)) w .2;
+  page-number = page-number-same sheet w room;
+  page = sheet-page sheet w;
+  printed-page = rw (page-number-same sheet w, sheet-page sheet w);
   label = rw (intake-same sheet w, sheet-image sheet w);
 }

@@ -17,7 +17,7 @@ use Rattle.double.specs.Double.{accepted, convert, roundDown, roundNearest, rou
 use Rattle.double.specs.declared.Rounding.{Rounding}
 use Rattle.double.proofs.Convert.{convert-word}
 use Rattle.double.proofs.Rules.{IsRule, is-rule, rule-integer, down-lower, down-upper, nearest-rule}
-use Rattle.double.proofs.Value.{signed-mul}
+use Rattle.double.proofs.Signs.{signed-mul}
 use Rattle.image.specs.declared.Sizes.{Sizes}
 use Rattle.frame.specs.Frame.{isTableEntry, roundingOf, wordOf}
 use Rattle.former_conversion.specs.Former as former

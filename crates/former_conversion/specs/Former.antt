@@ -1,5 +1,5 @@
 -- The definitions as they stood before request 7, "Nearest rounding for the tables": those that differ, each with the name and the text that it
--- had, and those that are over them. All else is cited. Kinds 02, 03 and 08 were rounded down. Definitions only.
+-- had, and those that are over them. All else is cited; of `ruleOf` no kind names the third rule here. Kinds 02, 03 and 08 were rounded down. Definitions only.
 use Prim.Native.Nat.{ℕ, _*_}
 use mathlib.Core.Bool.{cond}
 use mathlib.Core.List.{List, [], _++_}
@@ -107,6 +107,9 @@ sheetPage s = headPage (headOf (lineAt s 0)) s
 unfoldable pub pageNumber : List ℕ → ℕ → ℕ
 pageNumber sheet room = orElse (designNumber sheet) (bufferNumber (44 * designCount sheet) room)
 
--- ---- label_text: what the label program printed
+-- ---- page_text, label_text: what the two programs printed
+unfoldable pub pageText : List ℕ → List ℕ
+pageText drive = printed (pageNumber drive (44 * designCount drive)) (sheetPage drive)
+
 unfoldable pub labelText : List ℕ → List ℕ → List ℕ → List ℕ
 labelText drive state target = printed (intakeNumber drive (length (intakeImage drive))) (imageText (intakeImage drive) state target)

@@ -18,6 +18,7 @@ use Rattle.lines.specs.Lines.{lineDouble}
 use Rattle.intake.specs.Intake.{intakeImage, intakeNumber}
 use Rattle.design_page.specs.Page.{pageNumber, sheetPage}
 use Rattle.label_text.specs.Label.{labelText}
+use Rattle.page_text.specs.Text.{pageText}
 use Rattle.former_conversion.specs.Former as former
 
 -- ---- a number
@@ -36,7 +37,7 @@ isWhole b (fin s m e) = eqb (m * up e * 2 ^ b % down e) 0
 abbrev pub WholeKept : Sizes → ℕ → Float → Type 0
 WholeKept z kind x = isWhole (z .b) x ≡ true → wordOf z kind x ≡ former.wordOf z kind x
 
--- any other has by the kind of a table the word that it had or the next, where it has one by both
+-- by the kind of a table a number has the word that it had or the next, where it has one by both
 abbrev pub SameOrNext : Sizes → ℕ → Float → Type 0
 SameOrNext z kind x =
     isTableEntry kind ≡ true → (v was : ℤ) → wordOf z kind x ≡ Word v → former.wordOf z kind x ≡ Word was → (was ≤ℤ v) × (v ≤ℤ (was +ℤ pos 1))
@@ -51,10 +52,11 @@ wholeIn (Unsized n) s = Unit {0}
 abbrev pub WholeTables : List ℕ → Type 0
 WholeTables sheet = wholeIn (headOf (lineAt sheet 0)) sheet
 
--- a sheet's number and image, its page's number and text, for a buffer of `room` bytes, and its label
+-- a sheet's number and image, its page's number and text, for a buffer of `room` bytes; what the two programs print
 pub record SameSheet (sheet state target : List ℕ) (room : ℕ) : Type 0 where
   pub number : intakeNumber sheet room ≡ former.intakeNumber sheet room
   pub image : intakeImage sheet ≡ former.intakeImage sheet
   pub page-number : pageNumber sheet room ≡ former.pageNumber sheet room
   pub page : sheetPage sheet ≡ former.sheetPage sheet
+  pub printed-page : pageText sheet ≡ former.pageText sheet
   pub label : labelText sheet state target ≡ former.labelText sheet state target

@@ -1,5 +1,5 @@
 -- The definitions as they stood before request 6, "Stop must be possible": those that differ, each with the name and the text that it had, and
--- those that are over them. All else is cited. There was no 17, and a cold start had for each command the value within its limits nearest
+-- those that are over them. All else is cited, the conversion of today with it. There was no 17, and a cold start had for each command the value within its limits nearest
 -- zero. Definitions only.
 use mathlib.Core.List.{List, [], _∷_, map}
 use Prim.Native.Nat.{ℕ, zero, _*_}

@@ -1,4 +1,5 @@
--- Document 01, "The design sheet": what line 01 gives, the lines due after it, and the word of a line's double. Definitions only.
+-- Document 01, "The design sheet", with requests 1, 3 and 7: what line 01 gives, the lines due after it, and the word of a line's double.
+-- Definitions only.
 use Prim.Native.Nat.{ℕ, _+_, _-_, _*_, _/_, _%_, _≤_, _<_}
 use mathlib.Core.Bool.{Bool, true, false, _&&_, _||_, cond}
 use mathlib.Core.List.{List, [], _∷_}

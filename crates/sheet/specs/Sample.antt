@@ -179,7 +179,8 @@ samples =
     ∷ sample 5 (changed 2 0x0300004020000000000000)
     ∷ sample 5 (changed 6 0x070000BFB0000000000000)
     ∷ sample 0 (changed 6 0x070000BFA0000000000000)
-    -- tables "to the nearest .., and only then tested for 5": 127.25 counts are 127, and −127.5 a tie that goes to −128; 127.5 as a high limit are 127
+    -- tables "to the nearest .., and only then tested for 5": 127.25 counts are 127, and −127.5 with one bit less −127; 127.5 and −127.5 are ties that
+    -- go to 128 and −128. 127.5 as a high limit are 127
     ∷ sample 0 (changed 1 0x020000401FD00000000000)
     ∷ sample 5 (changed 1 0x020000401FE00000000000)
     ∷ sample 0 (changed 2 0x030000C01FDFFFFFFFFFFF)

@@ -13,9 +13,11 @@ use mir.Facts.{toZ-ofZ}
 use Rattle.integer.specs.Parts.{int, nat, _⊕_, _⊙_}
 use Rattle.integer.proofs.Parts.{abs!, abs?}
 use Rattle.integer.proofs.Machine.{fit-abs, sfits-add, sfits-mul}
-use Rattle.double.proofs.Value.{abs-signed, small}
+use Rattle.double.proofs.Signs.{abs-signed}
+use Rattle.double.proofs.Value.{small}
 use Rattle.double.proofs.Back.{in-float}
-use Rattle.double.proofs.Steps.{ByFloor, by-floor, middle}
+use Rattle.double.proofs.FromFloor.{middle}
+use Rattle.double.proofs.Steps.{ByFloor, by-floor}
 use Rattle.double.proofs.nearest_integer.Statement.{statement}
 use Rattle.double.proofs.nearest_integer.Tie as tie
 

@@ -55,10 +55,10 @@ returns c = let a = c .before .before in rw (c .enum-told .given .1, read a) (a 
 returns-2 : tie.Need-returns-2
 returns-2 c =
     let a = c .before .before .before .before in
-    rw (c .before .before .enum-told2 .given .1, read a, toZ-ofZ (more-fits a)) (known a .up-right (rw (read a) at (c .if1 .taken)))
+    rw (c .before .before .enum-told2 .given .1, read a, toZ-ofZ (more-fits a)) (known a .ceiling-more (rw (read a) at (c .if1 .taken)))
 
 returns-3 : tie.Need-returns-3
-returns-3 c = let a = c .before .before .before .before in rw (c .before .before .enum-told2 .given .1, read a) (known a .up-left (rw (read a) at (c .if1 .left)))
+returns-3 c = let a = c .before .before .before .before in rw (c .before .before .enum-told2 .given .1, read a) (known a .ceiling-same (rw (read a) at (c .if1 .left)))
 
 returns-4 : tie.Need-returns-4
 returns-4 c = rw (c .before .enum-told3 .given .1, back (c .nearest-integer .result) (c .nearest-integer .ok)) (c .nearest-integer .ensures)
