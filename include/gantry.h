@@ -50,7 +50,7 @@ enum gantry_number {
     GANTRY_WRONG_LINE = 2,     /* sheet: not the kind, row and column due here, or a zero byte of line 01 is not 0 */
     GANTRY_BAD_SIZE = 3,       /* a size out of its range, nr among them, or image word 7 not 0 */
     GANTRY_BAD_END = 4,        /* sheet: a line missing, or a byte after the last line due */
-    GANTRY_BAD_VALUE = 5,      /* NaN, infinity, a value outside the word once rounded, or a negative limit of state or target */
+    GANTRY_BAD_VALUE = 5,      /* NaN, infinity, outside the word once rounded, or a negative limit of state or target */
     GANTRY_BAD_LENGTH = 6,     /* image: fewer than 32 bytes, or not the length that its sizes give */
     GANTRY_LIMITS_CROSSED = 7, /* a low limit above its high limit */
     GANTRY_NOT_SYMMETRIC = 8,  /* the cost table is not symmetric */
