@@ -41,6 +41,7 @@ twice y = mul binary64 y (power 1)
 
 pub record ByFloor (y : Float) (q : ℤ) : Type 0 where
   pub small : natAbs q ≤ 2 ^ 32
+  pub middle-small : natAbs (middle q) ≤ 2 ^ 34
   -- q as a double beside y: nothing or something is left above q
   pub ceiling-same : lt (ofInt binary64 q) y ≡ false → q ≡ rounded roundUp 0 y
   pub ceiling-more : lt (ofInt binary64 q) y ≡ true → q +ℤ pos 1 ≡ rounded roundUp 0 y
@@ -63,6 +64,7 @@ twice-quotient (fin s m e) f a =
 by-floor-of : (y : Float) → T (fits binary64 y) → (a : Small y) → ByFloor y (roundDown (num y) (den y))
 by-floor-of y f a = record {
   small = s;
+  middle-small = s2;
   ceiling-same = λ h. up-same z D (ltZ-false (sym m ∙ h)) ∙ sym (a .as-fraction roundUp);
   ceiling-more = λ h. up-more z D (ltZ-true (sym m ∙ h)) ∙ sym (a .as-fraction roundUp);
   before = λ h. nearest-before z D (ltZ-true (sym l2 ∙ h)) ∙ sym (a .as-fraction roundNearest);
@@ -83,17 +85,17 @@ by-floor-of y f a = record {
     s : natAbs q ≤ 2 ^ 32
     s = rule-small roundDown down-rule (2 ^ 32) z D (le-of-lt (a .magnitude))
 
-    s2 : natAbs (middle q) ≤ 2 ^ 53
+    s2 : natAbs (middle q) ≤ 2 ^ 34
     s2 = let k = abs? (int q) s in abs! (2 ⊙ int q ⊕ nat 1) (omega arith) (omega arith)
 
     m : lt (ofInt binary64 q) y ≡ ltZ (q *ℤ pos (den y)) z
     m = more-integer y z D (a .has-quotient) q (le-trans s (lit≤ tt))
 
     l2 : lt (twice y) (ofInt binary64 (middle q)) ≡ ltZ (z *ℤ pos 2) (middle q *ℤ pos (den y))
-    l2 = less-integer (twice y) (z *ℤ pos 2) D (twice-quotient y f a) (middle q) s2
+    l2 = less-integer (twice y) (z *ℤ pos 2) D (twice-quotient y f a) (middle q) (le-trans s2 (lit≤ tt))
 
     m2 : lt (ofInt binary64 (middle q)) (twice y) ≡ ltZ (middle q *ℤ pos (den y)) (z *ℤ pos 2)
-    m2 = more-integer (twice y) (z *ℤ pos 2) D (twice-quotient y f a) (middle q) s2
+    m2 = more-integer (twice y) (z *ℤ pos 2) D (twice-quotient y f a) (middle q) (le-trans s2 (lit≤ tt))
 
     level : lt (twice y) (ofInt binary64 (middle q)) ≡ false → lt (ofInt binary64 (middle q)) (twice y) ≡ false → z *ℤ pos 2 ≡ middle q *ℤ pos (den y)
     level h k = ≤ℤ-antisym (ltZ-false (sym m2 ∙ k)) (ltZ-false (sym l2 ∙ h))

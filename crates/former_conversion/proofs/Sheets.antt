@@ -1,10 +1,9 @@
 -- A sheet all of whose table entries are whole numbers of counts has the number, the image, the page and the label that it had. Assumes nothing.
-use mathlib.Core.Path.{_≡_, refl, sym, ap}
-use mathlib.Core.Bool.{Bool, true, false, _||_, false≢true}
+use mathlib.Core.Path.{_≡_, refl, ap}
+use mathlib.Core.Bool.{Bool, true, false}
 use mathlib.Core.List.{List, _++_}
 use Prim.Native.Nat.{ℕ, _≤_, _<_}
 use native.Mathlib.Omega.{arith}
-use lib.Dec.{eqb}
 use lib.IntN.{ℤ}
 use borrow.Author.Tests.{eqb-false}
 use Rattle.word.proofs.Joined.{joined-cong}
@@ -27,16 +26,11 @@ use Rattle.page_text.specs.Text.{pageText}
 use Rattle.label_text.specs.Label.{labelText}
 use Rattle.former_conversion.specs.Former as former
 use Rattle.former_conversion.specs.Kept.{SameSheet, WholeTables, wholeIn}
-use Rattle.former_conversion.proofs.Words.{others-kept, whole-kept}
+use Rattle.former_conversion.proofs.Words.{no-entry, others-kept, whole-kept}
 
 -- ---- the lines after line 01
 from-4 : (kind : ℕ) → 2 ≤ kind → isTableEntry kind ≡ false → 4 ≤ kind
-from-4 kind h t = by (eqb kind 2) refl (eqb kind 3) refl t
-  where
-    by : (a : Bool) → eqb kind 2 ≡ a → (b : Bool) → eqb kind 3 ≡ b → a || b || eqb kind 8 ≡ false → 4 ≤ kind
-    by true e b f t = absurd (false≢true (sym t))
-    by false e true f t = absurd (false≢true (sym t))
-    by false e false f t = let p = eqb-false kind 2 e in let q = eqb-false kind 3 f in omega arith
+from-4 kind h t = let n = no-entry kind t in let p = eqb-false kind 2 (n .0) in let q = eqb-false kind 3 (n .1) in omega arith
 
 module _ (z : Sizes) (s : List ℕ) (whole : wholeIn (Sized z) s) where
   -- the word of a line's double

@@ -24,13 +24,16 @@ use Rattle.former_conversion.specs.Former as former
 use Rattle.former_conversion.specs.Kept.{isWhole, OthersKept, SameOrNext, WholeKept}
 
 -- ---- the other kinds
-rounding-kept : (kind : ℕ) → 4 ≤ kind → isTableEntry kind ≡ false → roundingOf kind ≡ former.roundingOf kind
-rounding-kept kind h t = rw (t, lt-leb kind 3 h, last (eqb kind 2) (eqb kind 3) (eqb kind 8) t)
+pub no-entry : (kind : ℕ) → isTableEntry kind ≡ false → (eqb kind 2 ≡ false) × (eqb kind 3 ≡ false) × (eqb kind 8 ≡ false)
+no-entry kind = none (eqb kind 2) (eqb kind 3) (eqb kind 8)
   where
-    last : (a b c : Bool) → a || b || c ≡ false → c ≡ false
-    last true b c e = absurd (false≢true (sym e))
-    last false true c e = absurd (false≢true (sym e))
-    last false false c e = e
+    none : (a b c : Bool) → a || b || c ≡ false → (a ≡ false) × (b ≡ false) × (c ≡ false)
+    none true b c e = absurd (false≢true (sym e))
+    none false true c e = absurd (false≢true (sym e))
+    none false false c e = (refl, refl, e)
+
+rounding-kept : (kind : ℕ) → 4 ≤ kind → isTableEntry kind ≡ false → roundingOf kind ≡ former.roundingOf kind
+rounding-kept kind h t = rw (t, lt-leb kind 3 h, no-entry kind t .2)
 
 pub others-kept : (z : Sizes) (kind : ℕ) (x : Float) → OthersKept z kind x
 unfolding wordOf former.wordOf

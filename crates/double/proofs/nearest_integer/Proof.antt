@@ -10,8 +10,6 @@ use denote.Floats.{passes}
 use mir.Syntax.{w64}
 use mir.Val.{SFits, toZ, ofZ}
 use mir.Facts.{toZ-ofZ}
-use Rattle.integer.specs.Parts.{int, nat, _⊕_, _⊙_}
-use Rattle.integer.proofs.Parts.{abs!, abs?}
 use Rattle.integer.proofs.Machine.{fit-abs, sfits-add, sfits-mul}
 use Rattle.double.proofs.Signs.{abs-signed}
 use Rattle.double.proofs.Value.{small}
@@ -55,11 +53,8 @@ module _ (c : tie.Start) where
   twice-fits : SFits w64 (pos 2 *ℤ q)
   twice-fits = sfits-mul (pos 2) q 2 (2 ^ 32) (omega arith) (known .small) (omega arith)
 
-  middle-abs : natAbs (middle q) ≤ 2 ^ 34
-  middle-abs = let k = abs? (int q) (known .small) in abs! (2 ⊙ int q ⊕ nat 1) (omega arith) (omega arith)
-
   middle-read : toZ w64 (ofZ w64 (toZ w64 (ofZ w64 (pos 2 *ℤ toZ w64 (ofZ w64 q))) +ℤ pos 1)) ≡ middle q
-  middle-read = rw (read, toZ-ofZ twice-fits) (toZ-ofZ (fit-abs (middle q) (let k = middle-abs in omega arith)))
+  middle-read = rw (read, toZ-ofZ twice-fits) (toZ-ofZ (fit-abs (middle q) (let k = known .middle-small in omega arith)))
 
   more-fits : SFits w64 (q +ℤ pos 1)
   more-fits = sfits-add q (pos 1) (2 ^ 32) 1 (known .small) (omega arith) (omega arith)
@@ -71,10 +66,10 @@ mul-twice-middle : tie.Need-mul-twice-middle
 mul-twice-middle c = rw (read (c .before)) (twice-fits (c .before))
 
 add-twice-middle : tie.Need-add-twice-middle
-add-twice-middle c = let a = c .before in rw (read a, toZ-ofZ (twice-fits a)) (fit-abs (middle (q a)) (let k = middle-abs a in omega arith))
+add-twice-middle c = let a = c .before in rw (read a, toZ-ofZ (twice-fits a)) (fit-abs (middle (q a)) (let k = known a .middle-small in omega arith))
 
 int-to-float-twice-middle : tie.Need-int-to-float-twice-middle
-int-to-float-twice-middle c = let a = c .before .before in rw (middle-read a) (in-float (middle (q a)) (let k = middle-abs a in omega arith))
+int-to-float-twice-middle c = let a = c .before .before in rw (middle-read a) (in-float (middle (q a)) (let k = known a .middle-small in omega arith))
 
 returns : tie.Need-returns
 returns c =
