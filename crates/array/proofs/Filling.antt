@@ -1,10 +1,11 @@
 -- An array that a loop fills from the front. Assumes nothing.
-use mathlib.Core.Path.{_≡_, _∙_}
+use mathlib.Core.Path.{_≡_, refl, sym, ap, _∙_}
 use mathlib.Core.List.{List}
 use Prim.Native.Nat.{ℕ, _+_, _≤_, _<_}
 use native.Mathlib.Nat.{not-suc-le-zero}
 use native.Mathlib.Omega.{arith}
 use lib.ListN.{length, set, length-set, getD}
+use lib.Seq.{getD-set-other, set-getD, ext-getD}
 use Rattle.integer.proofs.Fill.{store-more}
 use Rattle.array.specs.Arrays.{Filled}
 
@@ -26,3 +27,27 @@ module _ {A : Type 0} (d : A) (P : ℕ → A → Type 0) where
 
 pub full : {A : Type 0} (d : A) (f : ℕ → A) {n i : ℕ} {l : List A} → n ≤ i → Filling d (λ (k : ℕ) (x : A). x ≡ f k) n i l → Filled d n f l
 full d f h s = record { sized = s .sized; each = all d (λ (k : ℕ) x. x ≡ f k) h s }
+
+-- an array that a loop fills in place of what it held: from i on it is as it was
+pub record Replacing {A : Type 0} (d : A) (P : ℕ → A → Type 0) (n i : ℕ) (old l : List A) : Type 0 where
+  pub filling : Filling d P n i l
+  pub rest : (k : ℕ) → i ≤ k → getD l k d ≡ getD old k d
+
+module _ {A : Type 0} (d : A) (P : ℕ → A → Type 0) where
+  pub replaced-none : (n : ℕ) (l : List A) → length l ≡ 16 → Replacing d P n 0 l l
+  replaced-none n l e = record { filling = none d P n l e; rest = λ k h. refl }
+
+  pub replaced-more : {n i : ℕ} {old l : List A} (v : A) → n ≤ 16 → i < n → Replacing d P n i old l → P i v → Replacing d P n (i + 1) old (set l i v)
+  replaced-more {n} {i} {old} {l} v few h s e = record {
+    filling = more d P v few h (s .filling) e;
+    rest = λ k b. getD-set-other l i k v d (λ q. omega arith) ∙ s .rest k (omega arith);
+  }
+
+-- what is stored is what stood there, in an array that was as before
+pub stored-same : {A : Type 0} (d : A) {old l : List A} (i : ℕ) {v : A} → l ≡ old → v ≡ getD l i d → set l i v ≡ old
+stored-same d {old} {l} i p e = ap (set l i) e ∙ set-getD l i d ∙ p
+
+-- two lists of n that one array holds
+pub same-held : {A : Type 0} (d : A) {n : ℕ} {l l′ a a′ : List A} → length l ≡ n → length l′ ≡ n → Filled d n (λ (i : ℕ). getD l i d) a → Filled d n (λ (i : ℕ). getD l′ i d) a′ → a′ ≡ a → l′ ≡ l
+same-held {A} d {n} {l} {l′} e e′ f f′ same =
+    ext-getD d l′ l (e′ ∙ sym e) (λ i h. let b : i < n = omega arith in sym (f′ .each i b) ∙ ap (λ (x : List A). getD x i d) same ∙ f .each i b)

@@ -11,8 +11,8 @@ pub record Filled {A : Type 0} (d : A) (n : ℕ) (f : ℕ → A) (l : List A) : 
   pub each : (i : ℕ) → i < n → getD l i d ≡ f i
 
 -- the first n of the first n rows are f 0 0, f 0 1, ..
-abbrev pub Tabled : ℕ → (ℕ → ℕ → ℤ) → List (List ℤ) → Type 0
-Tabled n f m = (i : ℕ) → i < n → Filled (pos 0) n (f i) (getD m i [])
+abbrev pub Tabled : {A : Type 0} → A → ℕ → (ℕ → ℕ → A) → List (List A) → Type 0
+Tabled d n f m = (i : ℕ) → i < n → Filled d n (f i) (getD m i [])
 
 -- the first n are words; the first n of the first n rows are; the first n are words without a sign
 abbrev pub WordsTo : ℕ → List ℤ → Type 0

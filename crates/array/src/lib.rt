@@ -26,6 +26,12 @@ pub fn blank_table() -> [[i64; 16]; 16]
     [[0; 16]; 16]
 }
 
+pub fn blank_sizes() -> [[u64; 16]; 16]
+    ensures { λ r. ⌜ length r ≡ 16 ⌝ }
+{
+    [[0; 16]; 16]
+}
+
 // The first n words of a part of the image, of the state or of the start.
 pub fn words_of(s: &[u8], n: usize) -> [i64; 16]
     requires { ⌜ (n ≤ 16) × (4 * n ≤ length (now s)) ⌝ }

@@ -2,11 +2,11 @@
 use mathlib.Core.List.{List}
 use Prim.Native.Nat.{ℕ, _+_, _*_, _^_, _≤_, _<_}
 use lib.ListN.{length, getD}
-use lib.IntN.{ℤ, pos, natAbs, _*ℤ_}
+use lib.IntN.{ℤ, pos, _*ℤ_}
 use Rattle.word.specs.Word.{wordAt}
 use Rattle.gradient.specs.Index.{sumN, sumZ, productAt}
 use Rattle.gradient.specs.Demand.{In64}
-use Rattle.array.specs.Arrays.{WordsTo}
+use Rattle.array.specs.Arrays.{WordsTo, NatsTo}
 
 -- term i of a row of the image and a vector x
 unfoldable pub inputTerm : List ℕ → List ℤ → ℕ → ℤ
@@ -30,12 +30,13 @@ pub record RowSummable (row : List ℕ) (x : List ℤ) (n : ℕ) : Type 0 where
   pub right : WordsTo n x
   pub runs : RunsTo n (inputTerm row x)
 
--- the sum of the first n magnitudes of r, each times its q
-unfoldable pub weightTo : List ℤ → List ℕ → ℕ → ℕ
-weightTo r q n = sumN (λ (j : ℕ). natAbs (getD r j (pos 0)) * getD q j 0) n
+-- the sum of the first n magnitudes of a row, each times its q
+unfoldable pub weightTo : List ℕ → List ℕ → ℕ → ℕ
+weightTo r q n = sumN (λ (j : ℕ). getD r j 0 * getD q j 0) n
 
 -- what that sum asks
-pub record Weighable (r : List ℤ) (q : List ℕ) (n : ℕ) : Type 0 where
+pub record Weighable (r q : List ℕ) (n : ℕ) : Type 0 where
   pub few : n ≤ 16
-  pub row : WordsTo n r
+  pub left : NatsTo n r
+  pub right : NatsTo n q
   pub small : weightTo r q n < 2 ^ 54

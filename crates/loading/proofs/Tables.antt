@@ -1,7 +1,7 @@
 -- The arrays that are made of an image are those of its problem. Assumes nothing.
 use mathlib.Core.Path.{_≡_, sym, ap, subst, _∙_}
 use mathlib.Core.List.{List, []}
-use Prim.Native.Nat.{ℕ, _+_, _*_, _-_, _^_, _≤_, _<_}
+use Prim.Native.Nat.{ℕ, _+_, _*_, _^_, _≤_, _<_}
 use native.Mathlib.Nat.{add-zero, zero-add}
 use native.Mathlib.Omega.{arith}
 use lib.ListN.{length, getD}
@@ -25,8 +25,9 @@ use Rattle.interface.proofs.Accept.{commands-length, gains-count, gains-length,
 use Rattle.interface.proofs.Demand.{values-count, inputs-length}
 use Rattle.array.specs.Arrays.{Filled, Tabled}
 use Rattle.dot.specs.Sums.{inputTerm, RunsTo}
-use Rattle.rows.specs.declared.Terms.{Terms}
-use Rattle.loading.specs.Tables.{linearAt, TermsOf}
+use Rattle.commands.specs.declared.CommandTerms.{CommandTerms}
+use Rattle.bounds.specs.declared.BoundTerms.{BoundTerms}
+use Rattle.loading.specs.Tables.{linearAt, CommandTermsOf, BoundTermsOf}
 
 -- ---- the linear term
 -- a sum of neighbouring terms of an input's row
@@ -88,16 +89,24 @@ nothing = record { lower = pos 0; upper = pos 0; row = []; gains = [] }
 abbrev pub command : Problem → ℕ → Command
 command p i = getD (p .commands) i nothing
 
--- M and the terms are those of a problem and its inputs
-pub record Represents (p : Problem) (inputs : List ℤ) (m : List (List ℤ)) (t : Terms) : Type 0 where
+-- an array has the rows of M
+abbrev pub HasRows : Problem → List (List ℤ) → Type 0
+HasRows p m = (i : ℕ) → i < length (p .commands) → (j : ℕ) → j < length (p .commands) → getD (getD m i []) j (pos 0) ≡ getD (command p i .row) j (pos 0)
+
+-- the terms are those of a problem and its inputs
+pub record HasCommands (p : Problem) (inputs : List ℤ) (t : CommandTerms) : Type 0 where
   pub n-is : t .n ≡ length (p .commands)
   pub b-is : t .b ≡ p .b
   pub momentum-is : t .momentum ≡ p .momentum
-  pub rows : (i : ℕ) → i < length (p .commands) → (j : ℕ) → j < length (p .commands) → getD (getD m i []) j (pos 0) ≡ getD (command p i .row) j (pos 0)
   pub lowers : (i : ℕ) → i < length (p .commands) → getD (t .lower) i (pos 0) ≡ command p i .lower
   pub uppers : (i : ℕ) → i < length (p .commands) → getD (t .upper) i (pos 0) ≡ command p i .upper
-  pub widths : (i : ℕ) → i < length (p .commands) → getD (t .width) i 0 ≡ width (command p i)
   pub linears : (i : ℕ) → i < length (p .commands) → getD (t .linear) i (pos 0) ≡ linear p inputs (command p i)
+
+pub record HasBounds (p : Problem) (t : BoundTerms) : Type 0 where
+  pub n-is : t .n ≡ length (p .commands)
+  pub b-is : t .b ≡ p .b
+  pub momentum-is : t .momentum ≡ p .momentum
+  pub widths : (i : ℕ) → i < length (p .commands) → getD (t .width) i 0 ≡ width (command p i)
 
 -- ---- the problem of an image
 module _ (z : Sizes) (image : List ℕ) where
@@ -105,27 +114,46 @@ module _ (z : Sizes) (image : List ℕ) where
   unfolding problemAt
   command-is i h = tab-at (commandAt z image) (commandCount z) i nothing (rw (commands-length z image) at h)
 
-  module _ (state target : List ℕ) (m : List (List ℤ)) (t : Terms) (table : Tabled (commandCount z) (entryAt z image) m) (of : TermsOf z image state target t) where
-    below : {i : ℕ} → i < length (problemAt z image .commands) → i < commandCount z
-    below h = rw (commands-length z image) at h
+  below : {i : ℕ} → i < length (problemAt z image .commands) → i < commandCount z
+  below h = rw (commands-length z image) at h
 
-    represents-at : Represents (problemAt z image) (inputsOf z state target) m t
-    unfolding problemAt commandAt
-    represents-at = record {
-      n-is = of .n-is ∙ sym (commands-length z image);
-      b-is = of .b-is;
-      momentum-is = of .momentum-is;
-      rows = λ i h j l. rw (command-is i h) (table i (below h) .each j (below l) ∙ sym (tab-at (entryAt z image i) (commandCount z) j (pos 0) (below l)));
-      lowers = λ i h. rw (command-is i h) (of .lowers .each i (below h));
-      uppers = λ i h. rw (command-is i h) (of .uppers .each i (below h));
-      widths = λ i h. rw (command-is i h) (of .widths .each i (below h));
-      linears = λ i h. rw (command-is i h) (of .linears .each i (below h));
-    }
+  rows-at : (m : List (List ℤ)) → Tabled (pos 0) (commandCount z) (entryAt z image) m → HasRows (problemAt z image) m
+  unfolding commandAt
+  rows-at m table i h j l = rw (command-is i h) (table i (below h) .each j (below l) ∙ sym (tab-at (entryAt z image i) (commandCount z) j (pos 0) (below l)))
 
-    -- with the sizes that the image gives
-    pub represents : z ≡ sizesOf image → Represents (problemOf image) (inputsOf (sizesOf image) state target) m t
+  commands-at : {state target : List ℕ} {t : CommandTerms} → CommandTermsOf z image state target t → HasCommands (problemAt z image) (inputsOf z state target) t
+  unfolding problemAt commandAt
+  commands-at of = record {
+    n-is = of .n-is ∙ sym (commands-length z image);
+    b-is = of .b-is;
+    momentum-is = of .momentum-is;
+    lowers = λ i h. rw (command-is i h) (of .lowers .each i (below h));
+    uppers = λ i h. rw (command-is i h) (of .uppers .each i (below h));
+    linears = λ i h. rw (command-is i h) (of .linears .each i (below h));
+  }
+
+  bounds-at : {t : BoundTerms} → BoundTermsOf z image t → HasBounds (problemAt z image) t
+  unfolding problemAt
+  bounds-at of = record {
+    n-is = of .n-is ∙ sym (commands-length z image);
+    b-is = of .b-is;
+    momentum-is = of .momentum-is;
+    widths = λ i h. rw (command-is i h) (of .widths .each i (below h));
+  }
+
+  -- with the sizes that the image gives
+  module _ (e : z ≡ sizesOf image) where
+    pub has-rows : (m : List (List ℤ)) → Tabled (pos 0) (commandCount z) (entryAt z image) m → HasRows (problemOf image) m
     unfolding problemOf
-    represents e = subst (λ (z : Sizes). Represents (problemAt z image) (inputsOf z state target) m t) e represents-at
+    has-rows m table = subst (λ (z : Sizes). HasRows (problemAt z image) m) e (rows-at m table)
+
+    pub has-commands : {state target : List ℕ} {t : CommandTerms} → CommandTermsOf z image state target t → HasCommands (problemOf image) (inputsOf (sizesOf image) state target) t
+    unfolding problemOf
+    has-commands {state} {target} {t} of = subst (λ (z : Sizes). HasCommands (problemAt z image) (inputsOf z state target) t) e (commands-at of)
+
+    pub has-bounds : {t : BoundTerms} → BoundTermsOf z image t → HasBounds (problemOf image) t
+    unfolding problemOf
+    has-bounds {t} of = subst (λ (z : Sizes). HasBounds (problemAt z image) t) e (bounds-at of)
 
 pub count-is : (image : List ℕ) → length (problemOf image .commands) ≡ commandCount (sizesOf image)
 unfolding problemOf

@@ -12,7 +12,8 @@ use Rattle.image.specs.Sizes.{Whole, commandCount}
 use Rattle.image.specs.Layout.{lowerAt, upperAt, momentumAt, commandAt, problemAt}
 use Rattle.interface.specs.Calls.{inputsOf}
 use Rattle.array.specs.Arrays.{Filled}
-use Rattle.rows.specs.declared.Terms.{Terms}
+use Rattle.commands.specs.declared.CommandTerms.{CommandTerms}
+use Rattle.bounds.specs.declared.BoundTerms.{BoundTerms}
 use Rattle.loading.specs.declared.Limits.{Limits}
 
 -- "h = Φ times the state", with the "target products", at command i, and w
@@ -22,11 +23,10 @@ linearAt z image state target i = linear (problemAt z image) (inputsOf z state t
 abbrev pub widthAt : Sizes → List ℕ → ℕ → ℕ
 widthAt z image i = width (commandAt z image i)
 
--- the limits, and w
+-- the limits
 pub record LimitsOf (z : Sizes) (image : List ℕ) (r : Limits) : Type 0 where
   pub lowers : Filled (pos 0) (commandCount z) (lowerAt z image) (r .lower)
   pub uppers : Filled (pos 0) (commandCount z) (upperAt z image) (r .upper)
-  pub widths : Filled 0 (commandCount z) (widthAt z image) (r .width)
 
 -- what the linear term asks: that the undivided sums of h stay within 64 bits, as demand 3 says of them
 pub record Loadable (z : Sizes) (image state target : List ℕ) : Type 0 where
@@ -35,12 +35,18 @@ pub record Loadable (z : Sizes) (image state target : List ℕ) : Type 0 where
   pub target-size : length target ≡ 4 * z .nr
   pub sums : (i : ℕ) → i < commandCount z → RunningSums (products (commandAt z image i .gains) (inputsOf z state target))
 
--- all that stays the same over the iterations, but for M
-pub record TermsOf (z : Sizes) (image state target : List ℕ) (t : Terms) : Type 0 where
+-- what stays the same over the iterations of the commands, but for M
+pub record CommandTermsOf (z : Sizes) (image state target : List ℕ) (t : CommandTerms) : Type 0 where
   pub lowers : Filled (pos 0) (commandCount z) (lowerAt z image) (t .lower)
   pub uppers : Filled (pos 0) (commandCount z) (upperAt z image) (t .upper)
-  pub widths : Filled 0 (commandCount z) (widthAt z image) (t .width)
   pub linears : Filled (pos 0) (commandCount z) (linearAt z image state target) (t .linear)
+  pub momentum-is : t .momentum ≡ natAbs (momentumAt z image)
+  pub n-is : t .n ≡ commandCount z
+  pub b-is : t .b ≡ z .b
+
+-- and over those of the error bounds
+pub record BoundTermsOf (z : Sizes) (image : List ℕ) (t : BoundTerms) : Type 0 where
+  pub widths : Filled 0 (commandCount z) (widthAt z image) (t .width)
   pub momentum-is : t .momentum ≡ natAbs (momentumAt z image)
   pub n-is : t .n ≡ commandCount z
   pub b-is : t .b ≡ z .b

@@ -1,54 +1,22 @@
-// The tables of an accepted image as arrays: M, and all else that stays the same over the iterations of a solve.
+// What an accepted image, a state and a target give the iterations, as arrays: all that stays the same over them, but for M.
 ghost use mathlib.Core.Path.{_≡_};
-ghost use Prim.Native.Nat.{_*_, _≤_, _<_};
-ghost use lib.ListN.{length};
+ghost use Prim.Native.Nat.{_<_};
 ghost use lib.IntN.{pos};
 ghost use Rattle.image.specs.Sizes.{Whole, commandCount, inputCount};
-ghost use Rattle.image.specs.Layout.{gainRow, entryOf, entryAt};
-ghost use Rattle.array.specs.Arrays.{Filled, Tabled, WordsTo};
+ghost use Rattle.image.specs.Layout.{gainRow};
+ghost use Rattle.array.specs.Arrays.{Filled, WordsTo};
 ghost use Rattle.gradient.specs.Index.{sumZ};
 ghost use Rattle.dot.specs.Sums.{inputTerm, RunsTo};
-ghost use Rattle.loading.specs.Tables.{linearAt, LimitsOf, Loadable, TermsOf};
+ghost use Rattle.loading.specs.Tables.{linearAt, widthAt, LimitsOf, Loadable, CommandTermsOf, BoundTermsOf};
+use bounds::BoundTerms;
+use commands::CommandTerms;
 use image::Input;
 use image::Sizes;
-use rows::Terms;
 
-// The limits of the commands, and high less low.
+// The limits of the commands.
 pub struct Limits {
     pub lower: [i64; 16],
     pub upper: [i64; 16],
-    pub width: [u64; 16],
-}
-
-// Row i of M, from the part of the image that starts at that row of H.
-fn matrix_row(row: &[u8], i: usize, n: usize, b: u32) -> [i64; 16]
-    requires { ⌜ (n ≤ 16) × ((b ≤ 20) × (4 * n ≤ length (now row))) ⌝ }
-    ensures { λ r. ⌜ Filled (pos 0) n (entryOf b (now (row .entry)) i) r ⌝ }
-{
-    let mut r = array::blank();
-    let mut j = 0;
-    while j < n {
-        r[j] = image::entry(row, b, i, j);
-        j += 1;
-    }
-    r
-}
-
-// M: n rows of n words.
-pub fn matrix(image: &[u8], z: Sizes) -> [[i64; 16]; 16]
-    requires { ⌜ Whole z (now image) ⌝ }
-    ensures { λ r. ⌜ Tabled (commandCount z) (entryAt z (now (image .entry))) r ⌝ }
-{
-    let n = z.nu * z.steps;
-    let mut m = array::blank_table();
-    let mut i = 0;
-    while i < n {
-        let at = image::cost_offset(z, i);
-        let r = matrix_row(&image[at..], i, n, z.b);
-        m[i] = r;
-        i += 1;
-    }
-    m
 }
 
 // The limits of each command.
@@ -59,21 +27,13 @@ fn limits_of(image: &[u8], z: Sizes) -> Limits
     let n = z.nu * z.steps;
     let mut lower = array::blank();
     let mut upper = array::blank();
-    let mut width = array::blank_errors();
     let mut i = 0;
     while i < n {
-        let low = image::lower_at(image, z, i);
-        let high = image::upper_at(image, z, i);
-        lower[i] = low;
-        upper[i] = high;
-        width[i] = integer::magnitude(high - low);
+        lower[i] = image::lower_at(image, z, i);
+        upper[i] = image::upper_at(image, z, i);
         i += 1;
     }
-    Limits {
-        lower,
-        upper,
-        width,
-    }
+    Limits { lower, upper }
 }
 
 // Row i of an input's table times its values x, undivided.
@@ -104,22 +64,51 @@ fn linear_terms(image: &[u8], state: &[u8], target: &[u8], z: Sizes) -> [i64; 16
     r
 }
 
-// All that stays the same over the iterations, but for M.
-pub fn terms_of(image: &[u8], state: &[u8], target: &[u8], z: Sizes) -> Terms
+// What the iterations of the commands take.
+pub fn command_terms(image: &[u8], state: &[u8], target: &[u8], z: Sizes) -> CommandTerms
     requires { ⌜ Loadable z (now image) (now state) (now target) ⌝ }
-    ensures { λ r. ⌜ TermsOf z (now (image .entry)) (now (state .entry)) (now (target .entry)) r ⌝ }
+    ensures { λ r. ⌜ CommandTermsOf z (now (image .entry)) (now (state .entry)) (now (target .entry)) r ⌝ }
 {
     let n = z.nu * z.steps;
     let l = limits_of(image, z);
     let lower = l.lower;
     let upper = l.upper;
-    let width = l.width;
     let linear = linear_terms(image, state, target, z);
-    let momentum = integer::magnitude(image::momentum_at(image, z));
-    Terms {
+    let momentum = magnitudes::size(image::momentum_at(image, z));
+    CommandTerms {
         lower,
         upper,
         linear,
+        momentum,
+        n,
+        b: z.b,
+    }
+}
+
+// w of each command.
+fn widths_of(image: &[u8], z: Sizes) -> [u64; 16]
+    requires { ⌜ Whole z (now image) ⌝ }
+    ensures { λ r. ⌜ Filled 0 (commandCount z) (widthAt z (now (image .entry))) r ⌝ }
+{
+    let n = z.nu * z.steps;
+    let mut r = array::blank_errors();
+    let mut i = 0;
+    while i < n {
+        r[i] = magnitudes::limit_width(image, z, i);
+        i += 1;
+    }
+    r
+}
+
+// What the iterations of the error bounds take: it is the image's alone.
+pub fn bound_terms(image: &[u8], z: Sizes) -> BoundTerms
+    requires { ⌜ Whole z (now image) ⌝ }
+    ensures { λ r. ⌜ BoundTermsOf z (now (image .entry)) r ⌝ }
+{
+    let n = z.nu * z.steps;
+    let width = widths_of(image, z);
+    let momentum = magnitudes::size(image::momentum_at(image, z));
+    BoundTerms {
         width,
         momentum,
         n,

@@ -32,7 +32,7 @@ fn largest_limit(image: &[u8], z: Sizes, k: usize) -> u64
 }
 
 // w of command k: its high less its low.
-fn limit_width(image: &[u8], z: Sizes, k: usize) -> u64
+pub fn limit_width(image: &[u8], z: Sizes, k: usize) -> u64
     requires { ⌜ Whole z (now image) × (k < commandCount z) ⌝ }
     ensures { λ r. ⌜ (r ≡ width (commandAt z (now (image .entry)) k)) × (r < 2 ^ 32) ⌝ }
 {

@@ -5,7 +5,7 @@ use Prim.Native.Nat.{ℕ, _≤_}
 use native.Mathlib.Omega.{arith}
 use lib.ListN.{length, take, drop, drop-of-length-le}
 use lib.Seq.{take-at, drop-at}
-use lib.IntN.{pos}
+use lib.IntN.{ℤ, pos}
 use Rattle.word.specs.Word.{Words}
 use Rattle.word.proofs.Buffer.{taken}
 use Rattle.gradient.specs.Demand.{Demand3}
@@ -17,10 +17,9 @@ use Rattle.gradient.proofs.Sizes.{word-fits}
 use Rattle.image.specs.Sizes.{commandCount}
 use Rattle.image.specs.Layout.{sizesOf, problemOf}
 use Rattle.interface.specs.Calls.{inputsOf, startOf, commandsAfter, boundsAfter}
-use Rattle.interface.specs.Accepted.{Solvable}
-use Rattle.iteration.specs.declared.State.{State}
+use Rattle.interface.specs.Accepted.{Accepted, Solvable}
 use Rattle.loading.proofs.Tables.{count-is}
-use Rattle.solve.specs.Reached.{ReachedOf}
+use Rattle.solve.specs.Reached.{CommandsOf, BoundsOf}
 
 -- x in front, and y in the place of all that is behind it
 pub behind : (x y s : List ℕ) (at k : ℕ) → length x ≡ at → length s ≤ k → take at (x ++ s) ++ (y ++ drop k (drop at (x ++ s))) ≡ x ++ y
@@ -41,18 +40,18 @@ module _ {image state target start : List ℕ} (ok : Solvable image state target
       word-fits (problemOf image) (ok .accepted .sized) _
       (all1-at (demand3 (problemOf image) (inputsOf (sizesOf image) state target) (startOf (sizesOf image) start) (ok .accepted .format) (ok .accepted .order) (ok .accepted .room) (ok .inputs) (ok .starts) k .inRange k (omega arith) .z-word) (pos 0) i h)
 
-  module _ (s : State) (at : ReachedOf image state target start k s) (n : ℕ) (e : n ≡ commandCount (sizesOf image)) where
-    pub few : n ≤ 16
-    few = omega (arith, ok .accepted .whole .sizes .n-high)
+module _ {image : List ℕ} (ok : Accepted image) (k n : ℕ) (e : n ≡ commandCount (sizesOf image)) where
+  pub few : n ≤ 16
+  few = omega (arith, ok .whole .sizes .n-high)
 
-    pub commands-are : take n (s .z) ≡ commandsAfter image state target start k
-    unfolding commandsAfter
-    commands-are =
-        taken (pos 0) (s .z) (commandsAfter image state target start k) n (omega (arith, few, at .at-z .sized)) (commands-length ∙ sym e)
-        (λ i h. at .at-z .each i (omega (arith, count-is image)))
+  pub bounds-are : (r : List ℕ) → BoundsOf image k r → take n r ≡ boundsAfter image k
+  unfolding boundsAfter
+  bounds-are r at =
+      taken 0 r (boundsAfter image k) n (omega (arith, few, at .sized)) (error-e-length (problemOf image) k ∙ count-is image ∙ sym e)
+      (λ i h. at .each i (omega arith))
 
-    pub bounds-are : take n (s .e) ≡ boundsAfter image k
-    unfolding boundsAfter
-    bounds-are =
-        taken 0 (s .e) (boundsAfter image k) n (omega (arith, few, at .at-e .sized)) (error-e-length (problemOf image) k ∙ count-is image ∙ sym e)
-        (λ i h. at .at-e .each i (omega (arith, count-is image)))
+module _ {image state target start : List ℕ} (ok : Solvable image state target start) (k n : ℕ) (e : n ≡ commandCount (sizesOf image)) where
+  pub commands-are : (r : List ℤ) → CommandsOf image state target start k r → take n r ≡ commandsAfter image state target start k
+  commands-are r at =
+      taken (pos 0) r (commandsAfter image state target start k) n (omega (arith, few (ok .accepted) k n e, at .sized)) (commands-length ok k ∙ sym e)
+      (λ i h. at .each i (omega arith))

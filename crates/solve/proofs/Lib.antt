@@ -1,3 +1,4 @@
 -- The laws that the proofs of this crate share.
-pub mod Reached
+pub mod Commands
+pub mod Bounds
 pub mod Answers

@@ -1,31 +1,32 @@
--- The arrays before the first iteration and after k of them. Assumes nothing.
+-- The arrays after k iterations. Assumes nothing.
 use mathlib.Core.List.{List}
-use Prim.Native.Nat.{ℕ, _*_}
+use Prim.Native.Nat.{ℕ}
 use lib.ListN.{length, getD}
 use lib.IntN.{ℤ, pos}
-use Rattle.word.specs.Word.{wordAt}
 use Rattle.gradient.specs.Problem.{Problem}
 use Rattle.gradient.specs.Scheme.{iterate}
 use Rattle.gradient.specs.Bounds.{errorAfter}
-use Rattle.image.specs.Layout.{sizesOf, problemOf}
-use Rattle.interface.specs.Calls.{inputsOf, startOf}
-use Rattle.array.specs.Arrays.{Filled}
-use Rattle.iteration.specs.declared.State.{State}
+use Rattle.image.specs.Sizes.{commandCount}
+use Rattle.image.specs.Layout.{sizesOf, entryAt}
+use Rattle.interface.specs.Calls.{commandsAfter, boundsAfter}
+use Rattle.array.specs.Arrays.{Filled, Tabled}
 
--- the arrays after k iterations
-pub record Reached (p : Problem) (inputs start : List ℤ) (k : ℕ) (s : State) : Type 0 where
-  pub at-z : Filled (pos 0) (length (p .commands)) (λ (i : ℕ). getD (iterate p inputs start k .z) i (pos 0)) (s .z)
-  pub at-y : Filled (pos 0) (length (p .commands)) (λ (i : ℕ). getD (iterate p inputs start k .y) i (pos 0)) (s .y)
-  pub at-e : Filled 0 (length (p .commands)) (λ (i : ℕ). getD (errorAfter p k .e) i 0) (s .e)
-  pub at-q : Filled 0 (length (p .commands)) (λ (i : ℕ). getD (errorAfter p k .q) i 0) (s .q)
+-- M of an image
+abbrev pub MatrixOf : List ℕ → List (List ℤ) → Type 0
+MatrixOf image m = Tabled (pos 0) (commandCount (sizesOf image)) (entryAt (sizesOf image) image) m
 
--- of the problem, the inputs and the start that a call is given
-abbrev pub ReachedOf : List ℕ → List ℕ → List ℕ → List ℕ → ℕ → State → Type 0
-ReachedOf image state target start k s = Reached (problemOf image) (inputsOf (sizesOf image) state target) (startOf (sizesOf image) start) k s
+-- z and y after k iterations, and e and q
+pub record CommandsAt (p : Problem) (inputs start : List ℤ) (k : ℕ) (z y : List ℤ) : Type 0 where
+  pub at-z : Filled (pos 0) (length (p .commands)) (λ (i : ℕ). getD (iterate p inputs start k .z) i (pos 0)) z
+  pub at-y : Filled (pos 0) (length (p .commands)) (λ (i : ℕ). getD (iterate p inputs start k .y) i (pos 0)) y
 
--- "z0 = y0 = start", "e is 0 before the first sweep", "q is 0 for the first sweep"
-pub record FirstOf (start : List ℕ) (n : ℕ) (s : State) : Type 0 where
-  pub at-z : Filled (pos 0) n (λ (i : ℕ). wordAt start (4 * i)) (s .z)
-  pub at-y : Filled (pos 0) n (λ (i : ℕ). wordAt start (4 * i)) (s .y)
-  pub at-e : Filled 0 n (λ (i : ℕ). 0) (s .e)
-  pub at-q : Filled 0 n (λ (i : ℕ). 0) (s .q)
+pub record BoundsAt (p : Problem) (k : ℕ) (e q : List ℕ) : Type 0 where
+  pub at-e : Filled 0 (length (p .commands)) (λ (i : ℕ). getD (errorAfter p k .e) i 0) e
+  pub at-q : Filled 0 (length (p .commands)) (λ (i : ℕ). getD (errorAfter p k .q) i 0) q
+
+-- the commands and the bounds of a call after k iterations
+abbrev pub CommandsOf : List ℕ → List ℕ → List ℕ → List ℕ → ℕ → List ℤ → Type 0
+CommandsOf image state target start k z = Filled (pos 0) (commandCount (sizesOf image)) (λ (i : ℕ). getD (commandsAfter image state target start k) i (pos 0)) z
+
+abbrev pub BoundsOf : List ℕ → ℕ → List ℕ → Type 0
+BoundsOf image k e = Filled 0 (commandCount (sizesOf image)) (λ (i : ℕ). getD (boundsAfter image k) i 0) e

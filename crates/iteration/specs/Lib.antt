@@ -1,2 +1,0 @@
--- What the contracts of an iteration cite.
-pub mod Steps

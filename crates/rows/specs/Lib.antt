@@ -1,2 +1,0 @@
--- What the contracts of the rows cite.
-pub mod Rows
