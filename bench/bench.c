@@ -1,12 +1,13 @@
-/* One solve of the library beside a plain twin in C, in one run and on the same bytes: both answers are compared, both
- * times printed with their ratio. usage: bench [twin|library N]  (one side alone, N times, for an instruction count) */
+/* One solve of the library beside two plain twins in C, in one run and on the same bytes: the answers are compared, the
+ * times printed with their ratios. usage: bench [count]  (count: each side solves each problem once, not timed) */
 #define _POSIX_C_SOURCE 200809L
 #include <stdio.h>
-#include <stdlib.h>
 #include <string.h>
 #include <time.h>
 
 #include "gantry.h"
+
+enum { REFUSED = 99 }; /* of a twin, which does not number its refusals */
 
 struct problem {
     int n, nx, nr, b, sweeps;
@@ -91,14 +92,44 @@ static void load(const struct problem *p, struct tables *t)
     }
 }
 
-static void twin(const struct problem *p, uint8_t *answer)
+static int64_t held(const struct tables *t, int i, int64_t x)
+{
+    return x < t->low[i] ? t->low[i] : x > t->high[i] ? t->high[i] : x;
+}
+
+static int64_t capped(const struct tables *t, int i, int64_t bound)
+{
+    int64_t width = t->high[i] - t->low[i];
+    return bound > width ? width : bound;
+}
+
+static int64_t next_y(const struct problem *p, const struct tables *t, int64_t z, int64_t old)
+{
+    return (((1ll << p->b) + t->beta) * z >> p->b) - (t->beta * old >> p->b);
+}
+
+static int64_t next_q(const struct problem *p, const struct tables *t, int64_t e, int64_t old)
+{
+    return e + up(t->beta * (e + old), p->b) + 1;
+}
+
+static void write_answer(const struct problem *p, const int64_t *z, const int64_t *e, uint8_t *answer)
+{
+    for (int i = 0; i < p->n; i++) {
+        put(answer + 4 * i, z[i]);
+        put(answer + 4 * (p->n + i), e[i]);
+    }
+}
+
+/* As the papers write it: every sweep is run, commands and bounds together. */
+static uint32_t twin(const struct problem *p, uint8_t *answer)
 {
     struct tables t;
     int64_t z[16], y[16], e[16] = {0}, q[16] = {0}, next[16], bound[16];
-    int n = p->n, b = p->b;
+    int n = p->n;
     load(p, &t);
     if (!accepted(p, &t))
-        return;
+        return REFUSED;
     for (int i = 0; i < n; i++)
         z[i] = y[i] = get(p->start + 4 * i);
     for (int s = 0; s < p->sweeps; s++) {
@@ -108,23 +139,84 @@ static void twin(const struct problem *p, uint8_t *answer)
                 sum += t.m[i][j] * y[j];
                 weight += magnitude(t.m[i][j]) * q[j];
             }
-            int64_t x = (sum >> b) - t.h[i];
-            next[i] = x < t.low[i] ? t.low[i] : x > t.high[i] ? t.high[i] : x;
-            bound[i] = up(weight, b) + 1;
-            if (bound[i] > t.high[i] - t.low[i])
-                bound[i] = t.high[i] - t.low[i];
+            next[i] = held(&t, i, (sum >> p->b) - t.h[i]);
+            bound[i] = capped(&t, i, up(weight, p->b) + 1);
         }
         for (int i = 0; i < n; i++) {
-            y[i] = (((1ll << b) + t.beta) * next[i] >> b) - (t.beta * z[i] >> b);
-            q[i] = bound[i] + up(t.beta * (bound[i] + e[i]), b) + 1;
+            y[i] = next_y(p, &t, next[i], z[i]);
+            q[i] = next_q(p, &t, bound[i], e[i]);
             z[i] = next[i];
             e[i] = bound[i];
         }
     }
-    for (int i = 0; i < n; i++) {
-        put(answer + 4 * i, z[i]);
-        put(answer + 4 * (n + i), e[i]);
+    write_answer(p, z, e, answer);
+    return GANTRY_ACCEPTED;
+}
+
+/* The commands, until a sweep changes neither z nor y, since no later one can then. Answers how many sweeps came before
+ * that one. */
+static int commands(const struct problem *p, const struct tables *t, int64_t *z)
+{
+    int64_t y[16], next[16];
+    for (int i = 0; i < p->n; i++)
+        z[i] = y[i] = get(p->start + 4 * i);
+    for (int s = 0; s < p->sweeps; s++) {
+        int changed = 0;
+        for (int i = 0; i < p->n; i++) {
+            int64_t sum = 0;
+            for (int j = 0; j < p->n; j++)
+                sum += t->m[i][j] * y[j];
+            next[i] = held(t, i, (sum >> p->b) - t->h[i]);
+        }
+        for (int i = 0; i < p->n; i++) {
+            int64_t point = next_y(p, t, next[i], z[i]);
+            changed |= next[i] != z[i] || point != y[i];
+            z[i] = next[i];
+            y[i] = point;
+        }
+        if (!changed)
+            return s;
     }
+    return p->sweeps;
+}
+
+/* The bounds likewise, by e and q. */
+static int bounds(const struct problem *p, const struct tables *t, int64_t *e)
+{
+    int64_t q[16] = {0}, bound[16];
+    memset(e, 0, 16 * sizeof *e);
+    for (int s = 0; s < p->sweeps; s++) {
+        int changed = 0;
+        for (int i = 0; i < p->n; i++) {
+            int64_t weight = 0;
+            for (int j = 0; j < p->n; j++)
+                weight += magnitude(t->m[i][j]) * q[j];
+            bound[i] = capped(t, i, up(weight, p->b) + 1);
+        }
+        for (int i = 0; i < p->n; i++) {
+            int64_t range = next_q(p, t, bound[i], e[i]);
+            changed |= bound[i] != e[i] || range != q[i];
+            e[i] = bound[i];
+            q[i] = range;
+        }
+        if (!changed)
+            return s;
+    }
+    return p->sweeps;
+}
+
+/* The twin with early ends: commands and bounds apart, each as far as it changes. */
+static uint32_t early_twin(const struct problem *p, uint8_t *answer)
+{
+    struct tables t;
+    int64_t z[16], e[16];
+    load(p, &t);
+    if (!accepted(p, &t))
+        return REFUSED;
+    commands(p, &t, z);
+    bounds(p, &t, e);
+    write_answer(p, z, e, answer);
+    return GANTRY_ACCEPTED;
 }
 
 /* ---- problems */
@@ -174,10 +266,58 @@ static void make(struct problem *p, int nu, int steps, int nx, int nr, int b, in
     }
 }
 
+/* The slowest known: neither commands nor bounds settle. With the largest step factor the commands swing about zero,
+ * each at its own pace, so that a branch on a sign is hard to predict; the last row's bound grows steadily. Where no
+ * branch depends on the values, every image of this size that never settles takes as long. */
+static void make_slowest(struct problem *p)
+{
+    int n = 16, limits = 8 + n * n + n * 12, limit = 1 << 28, f = 1 << 20;
+    make(p, 4, 4, 12, 4, 20, 400);
+    memset(p->image + 4 * 8, 0, 4 * (size_t)(n * n));
+    for (int i = 0; i < n; i++) {
+        put(p->image + 4 * (8 + i * n + i), i < n - 1 ? (i + 1) * f / 150 : 2 * f / 3);
+        put(p->image + 4 * (limits + i), -limit);
+        put(p->image + 4 * (limits + n + i), limit);
+        put(p->start + 4 * i, i % 2 ? limit : -limit);
+    }
+    put(p->image + 4 * (limits + 2 * n), f - 1);
+    memset(p->state, 0, sizeof p->state);
+    memset(p->target, 0, sizeof p->target);
+}
+
+/* ---- the sides */
 static uint32_t library(const struct problem *p, uint8_t *answer)
 {
-    return gantry_solve(p->image, p->image_len, p->state, GANTRY_STATE_BYTES(p->nx), p->target, GANTRY_TARGET_BYTES(p->nr),
-                        p->start, GANTRY_START_BYTES(p->n), answer, GANTRY_ANSWER_BYTES(p->n));
+    return gantry_solve(p->image, p->image_len, p->state, GANTRY_STATE_BYTES(p->nx), p->target,
+                        GANTRY_TARGET_BYTES(p->nr), p->start, GANTRY_START_BYTES(p->n), answer,
+                        GANTRY_ANSWER_BYTES(p->n));
+}
+
+static const struct {
+    const char *name;
+    uint32_t (*solve)(const struct problem *, uint8_t *answer);
+} sides[] = {{"library", library}, {"twin", twin}, {"early twin", early_twin}};
+enum { SIDES = sizeof sides / sizeof *sides, ANSWER = GANTRY_ANSWER_BYTES(GANTRY_MAX_COMMANDS) };
+
+static int agree(const char *name, const struct problem *p)
+{
+    uint8_t answers[SIDES][ANSWER] = {{0}};
+    for (int k = 0; k < SIDES; k++) {
+        uint32_t number = sides[k].solve(p, answers[k]);
+        if (number != GANTRY_ACCEPTED || memcmp(answers[k], answers[0], GANTRY_ANSWER_BYTES(p->n)) != 0) {
+            const char *answer = number == GANTRY_ACCEPTED ? "differs" : "none";
+            printf("%s: %s, number %u, answer %s\n", name, sides[k].name, (unsigned)number, answer);
+            return 0;
+        }
+    }
+    return 1;
+}
+
+/* noipa: a solve whose answer nobody reads is not left out, and valgrind finds the call by its name. */
+__attribute__((noipa)) static void solve_once(const struct problem *p, int side)
+{
+    uint8_t answer[ANSWER];
+    sides[side].solve(p, answer);
 }
 
 static double now(void)
@@ -187,45 +327,77 @@ static double now(void)
     return (double)t.tv_sec + 1e-9 * (double)t.tv_nsec;
 }
 
-/* The best of many rounds: what the code takes when nothing disturbs it. */
-static double best(const struct problem *p, int which, int rounds, int calls)
+/* The best of many rounds, in us: what the code takes when nothing disturbs it. The sides take turns, so that each
+ * meets the machine at its fastest. */
+static void measure(const struct problem *p, int calls, double *least)
 {
-    uint8_t answer[GANTRY_ANSWER_BYTES(GANTRY_MAX_COMMANDS)];
-    double least = 1e9;
-    for (int r = 0; r < rounds; r++) {
-        double begin = now();
-        for (int k = 0; k < calls; k++)
-            which ? (void)library(p, answer) : twin(p, answer);
-        double took = (now() - begin) / calls;
-        least = took < least ? took : least;
-    }
-    return least;
+    for (int r = 0; r < 400; r++)
+        for (int k = 0; k < SIDES; k++) {
+            double begin = now();
+            for (int c = 0; c < calls; c++)
+                solve_once(p, k);
+            double took = 1e6 * (now() - begin) / calls;
+            least[k] = r == 0 || took < least[k] ? took : least[k];
+        }
 }
 
-static int compare(const char *name, const struct problem *p, int calls)
+static void print_settled(const char *what, int sweeps, int most)
 {
-    uint8_t ours[GANTRY_ANSWER_BYTES(GANTRY_MAX_COMMANDS)] = {0}, theirs[sizeof ours] = {0};
-    uint32_t number = library(p, ours);
-    twin(p, theirs);
-    if (number != GANTRY_ACCEPTED || memcmp(ours, theirs, GANTRY_ANSWER_BYTES(p->n)) != 0) {
-        printf("%s: number %u, answers %s\n", name, (unsigned)number, number ? "none" : "differ");
-        return 1;
+    if (sweeps < most)
+        printf(" %s settle after %d,", what, sweeps);
+    else
+        printf(" %s do not settle,", what);
+}
+
+static void report(const char *name, const struct problem *p, int calls)
+{
+    struct tables t;
+    int64_t z[16], e[16];
+    double us[SIDES];
+    load(p, &t);
+    measure(p, calls, us);
+    printf("%s:", name);
+    print_settled("commands", commands(p, &t, z), p->sweeps);
+    print_settled("bounds", bounds(p, &t, e), p->sweeps);
+    for (int k = 0; k < SIDES; k++)
+        printf(" %s %.2f us,", sides[k].name, us[k]);
+    printf(" ratios %.2f and %.2f, same answer\n", us[0] / us[1], us[0] / us[2]);
+}
+
+/* Each line names a solve, in the order of valgrind's counts. */
+static void count(const char *name, const struct problem *p)
+{
+    for (int k = 0; k < SIDES; k++) {
+        printf("%s, %s\n", name, sides[k].name);
+        solve_once(p, k);
     }
-    double a = best(p, 1, 200, calls), b = best(p, 0, 200, calls);
-    printf("%s: library %.2f us, twin %.2f us, ratio %.2f, same answer\n", name, 1e6 * a, 1e6 * b, a / b);
-    return 0;
 }
 
 int main(int argc, char **argv)
 {
-    static struct problem large, small;
-    make(&large, 4, 4, 12, 4, 20, 400);
+    static struct problem small, hundred, largest, slowest;
+    int counting = argc == 2 && strcmp(argv[1], "count") == 0;
+    make(&largest, 4, 4, 12, 4, 20, 400);
     make(&small, 2, 1, 4, 0, 16, 20);
-    if (argc == 3) {
-        uint8_t answer[GANTRY_ANSWER_BYTES(GANTRY_MAX_COMMANDS)];
-        for (int k = atoi(argv[2]); k > 0; k--)
-            argv[1][0] == 't' ? twin(&large, answer) : (void)library(&large, answer);
-        return 0;
+    hundred = largest;
+    hundred.sweeps = 100;
+    put(hundred.image + 4 * 5, 100);
+    make_slowest(&slowest);
+    const struct {
+        const char *name;
+        const struct problem *problem;
+        int calls; /* a round */
+    } all[] = {{"n 2, nx 4, nr 0, b 16, 20 sweeps", &small, 200},
+               {"n 16, nx 12, nr 4, b 20, 100 sweeps", &hundred, 5},
+               {"n 16, nx 12, nr 4, b 20, 400 sweeps", &largest, 3},
+               {"n 16, nx 12, nr 4, b 20, 400 sweeps, slowest", &slowest, 3}};
+    for (size_t i = 0; i < sizeof all / sizeof *all; i++) {
+        if (!agree(all[i].name, all[i].problem))
+            return 1;
+        if (counting)
+            count(all[i].name, all[i].problem);
+        else
+            report(all[i].name, all[i].problem, all[i].calls);
     }
-    return compare("n 16, nx 12, nr 4, b 20, 400 sweeps", &large, 5) | compare("n 2, nx 4, nr 0, b 16, 20 sweeps", &small, 500);
+    return 0;
 }
