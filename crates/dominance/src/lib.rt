@@ -8,6 +8,12 @@ ghost use Rattle.interface.specs.Tables.{eqZ, othersAt, marginAt, totalAt, symm
 use image::Sizes;
 use row_sums::Term;
 
+// The margin and the total of a row.
+pub struct Disc {
+    pub margin: i64,
+    pub total: i64,
+}
+
 // 2^b.
 pub fn power(b: u32) -> i64
     requires { ⌜ b ≤ 20 ⌝ }
@@ -36,20 +42,16 @@ fn cost_at(image: &[u8], z: Sizes, i: usize, j: usize) -> i64
     word::word_at(&image[at..], 4 * j)
 }
 
-// The margin of row i: its diagonal less the others.
-pub fn margin(image: &[u8], z: Sizes, i: usize) -> i64
+// The ends of row i's Gershgorin disc: its diagonal less the others, and plus them.
+pub fn disc_of(image: &[u8], z: Sizes, i: usize) -> Disc
     requires { ⌜ Whole z (now image) × (i < commandCount z) ⌝ }
-    ensures { λ r. ⌜ r ≡ marginAt z (now (image .entry)) i ⌝ }
+    ensures { λ r. ⌜ (r .margin ≡ marginAt z (now (image .entry)) i) × (r .total ≡ totalAt z (now (image .entry)) i) ⌝ }
 {
-    cost_at(image, z, i, i) - others(image, z, i)
-}
-
-// The total of row i: its diagonal plus the others.
-pub fn total(image: &[u8], z: Sizes, i: usize) -> i64
-    requires { ⌜ Whole z (now image) × (i < commandCount z) ⌝ }
-    ensures { λ r. ⌜ r ≡ totalAt z (now (image .entry)) i ⌝ }
-{
-    cost_at(image, z, i, i) + others(image, z, i)
+    let diagonal = cost_at(image, z, i, i);
+    let radius = others(image, z, i);
+    let margin = diagonal - radius;
+    let total = diagonal + radius;
+    Disc { margin, total }
 }
 
 // Whether a is c.

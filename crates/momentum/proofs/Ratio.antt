@@ -17,6 +17,7 @@ use Rattle.image.specs.declared.Sizes.{Sizes}
 use Rattle.image.specs.Sizes.{commandCount}
 use Rattle.image.specs.Layout.{costAt, momentumAt}
 use Rattle.interface.specs.Tables.{marginTest, totalTest, othersAt, marginAt, totalAt, leastMargin, largestTotal, momentumRange}
+use Rattle.momentum.specs.declared.Extremes.{Extremes}
 use Rattle.momentum.specs.Ready.{MomentumReady}
 use Rattle.momentum.proofs.Least.{least-one, largest-one}
 
@@ -29,7 +30,7 @@ lt-less (pos a) k h = by (leb a (k - 1)) refl
     by false e = le-ltb a k (omega (arith, leb-false a (k - 1) e))
 lt-less (negsuc a) k h = refl
 
-module _ (z : Sizes) (s : List ℕ) (r : MomentumReady z s) where
+module _ (z : Sizes) (s : List ℕ) (x : Extremes) (r : MomentumReady z s x) where
   power : 2 ^ z .b ≤ 2 ^ 20
   power = pow-mono {j = 20} (r .whole .sizes .b-high)
 
@@ -58,10 +59,10 @@ module _ (z : Sizes) (s : List ℕ) (r : MomentumReady z s) where
     unfolding totalAt
     total-most = abs! (int (costAt z s i i) ⊕ nat (othersAt z s i)) (omega (arith, power, above, below)) (omega (arith, power, above, below))
 
-  pub least-most : natAbs (leastMargin z s) ≤ 2 ^ 20
+  pub least-most : natAbs (x .margin) ≤ 2 ^ 20
   unfolding leastMargin
-  least-most = least-one (λ (x : ℤ). natAbs x ≤ 2 ^ 20) (marginAt z s) (commandCount z - 1) (λ i l. margin-most i (omega (arith, r .whole .sizes .n-low)))
+  least-most = rw (r .least) (least-one (λ (m : ℤ). natAbs m ≤ 2 ^ 20) (marginAt z s) (commandCount z - 1) (λ i l. margin-most i (omega (arith, r .whole .sizes .n-low))))
 
-  pub largest-most : natAbs (largestTotal z s) ≤ 2 ^ 20
+  pub largest-most : natAbs (x .total) ≤ 2 ^ 20
   unfolding largestTotal
-  largest-most = largest-one (λ (x : ℤ). natAbs x ≤ 2 ^ 20) (totalAt z s) (commandCount z - 1) (λ i l. total-most i (omega (arith, r .whole .sizes .n-low)))
+  largest-most = rw (r .largest) (largest-one (λ (t : ℤ). natAbs t ≤ 2 ^ 20) (totalAt z s) (commandCount z - 1) (λ i l. total-most i (omega (arith, r .whole .sizes .n-low))))

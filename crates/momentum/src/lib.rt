@@ -1,4 +1,4 @@
-// Check 11: the range of β, and its ratio by the least margin and the largest total.
+// Check 11: the range of β, and its ratio by the least margin and the largest total, which 9 and 10 go by too.
 ghost use mathlib.Core.Path.{_≡_};
 ghost use Prim.Native.Nat.{_^_, _≤_};
 ghost use lib.IntN.{natAbs, _*ℤ_};
@@ -8,9 +8,9 @@ ghost use Rattle.momentum.specs.Ready.{MomentumReady};
 use image::Sizes;
 
 // The least margin and the largest total of the rows.
-struct Extremes {
-    margin: i64,
-    total: i64,
+pub struct Extremes {
+    pub margin: i64,
+    pub total: i64,
 }
 
 // The lesser of two.
@@ -28,17 +28,19 @@ fn greater(a: i64, c: i64) -> i64
 }
 
 // The first row, and then each row after it.
-fn extremes_of(image: &[u8], z: Sizes) -> Extremes
+pub fn extremes_of(image: &[u8], z: Sizes) -> Extremes
     requires { ⌜ Whole z (now image) ⌝ }
     ensures { λ r. ⌜ (r .margin ≡ leastMargin z (now (image .entry))) × (r .total ≡ largestTotal z (now (image .entry))) ⌝ }
 {
     let n = z.nu * z.steps;
-    let mut least = dominance::margin(image, z, 0);
-    let mut largest = dominance::total(image, z, 0);
+    let first = dominance::disc_of(image, z, 0);
+    let mut least = first.margin;
+    let mut largest = first.total;
     let mut i = 1;
     while i < n {
-        least = lesser(least, dominance::margin(image, z, i));
-        largest = greater(largest, dominance::total(image, z, i));
+        let row = dominance::disc_of(image, z, i);
+        least = lesser(least, row.margin);
+        largest = greater(largest, row.total);
         i += 1;
     }
     Extremes {
@@ -67,13 +69,12 @@ pub fn is_momentum(image: &[u8], z: Sizes) -> bool
     m < dominance::power(z.b)
 }
 
-// The ratio of 11. Its products fit 64 bits because β is in its range and 9 and 10 have passed: margins and totals are then from 1 to 2^b.
-pub fn momentum_passes(image: &[u8], z: Sizes) -> bool
-    requires { ⌜ MomentumReady z (now image) ⌝ }
+// The ratio of 11 by the extremes x. Its products fit 64 bits because β is in its range and 9 and 10 have passed: margins and totals are then from 1 to 2^b.
+pub fn momentum_passes(image: &[u8], z: Sizes, x: Extremes) -> bool
+    requires { ⌜ MomentumReady z (now image) x ⌝ }
     ensures { λ r. ⌜ r ≡ momentumRatio z (now (image .entry)) ⌝ }
 {
     let f = dominance::power(z.b);
     let m = image::momentum_at(image, z);
-    let x = extremes_of(image, z);
     squared(f - m, x.total) <= squared(f + m, x.margin)
 }

@@ -1,4 +1,4 @@
-// The tests of each row: 7, 17, 8 to 10, and the two of 12.
+// The tests of each row: 7, 17, 8, and the two of 12.
 ghost use mathlib.Core.Path.{_≡_};
 ghost use mathlib.Core.Bool.{_&&_};
 ghost use Prim.Native.Nat.{_<_};
@@ -9,13 +9,11 @@ ghost use Rattle.image.specs.Layout.{lowerAt, upperAt};
 ghost use Rattle.row_tests.specs.Tests.{testAt, TestReady};
 use image::Sizes;
 
-// A test of each row: 7, 17, 8, 9, 10, and the two of 12.
+// A test of each row: 7, 17, 8, and the two of 12.
 pub enum Test {
     Ordered,
     Stoppable,
     Symmetric,
-    Margin,
-    Total,
     Point,
     Row,
 }
@@ -40,8 +38,6 @@ fn row_test(image: &[u8], z: Sizes, t: Test, i: usize) -> bool
         Test::Ordered => image::lower_at(image, z, i) <= image::upper_at(image, z, i),
         Test::Stoppable => is_inside(image, z, i, 0),
         Test::Symmetric => dominance::is_symmetric(image, z, i),
-        Test::Margin => 1 <= dominance::margin(image, z, i),
-        Test::Total => dominance::total(image, z, i) <= dominance::power(z.b),
         Test::Point => headroom::point_passes(image, z, i),
         Test::Row => headroom::row_passes(image, z, i),
     }

@@ -19,16 +19,17 @@ pub fn tables_number(image: &[u8], z: Sizes) -> u32
     if !row_tests::rows_pass(image, z, Test::Symmetric) {
         return 8;
     }
-    if !row_tests::rows_pass(image, z, Test::Margin) {
+    let x = momentum::extremes_of(image, z);
+    if x.margin < 1 {
         return 9;
     }
-    if !row_tests::rows_pass(image, z, Test::Total) {
+    if dominance::power(z.b) < x.total {
         return 10;
     }
     if !momentum::is_momentum(image, z) {
         return 11;
     }
-    if !momentum::momentum_passes(image, z) {
+    if !momentum::momentum_passes(image, z, x) {
         return 11;
     }
     if !row_tests::rows_pass(image, z, Test::Point) {

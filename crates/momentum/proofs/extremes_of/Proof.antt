@@ -19,53 +19,54 @@ abbrev μ-loop : tie.MeasureT-loop
 
 -- what a turn makes of the two
 module _ (c : tie.After-greater Inv-loop μ-loop) where
-  abbrev a : tie.Start Inv-loop μ-loop
-  a = c .before .before .before .before .before .before .before .before .before .before
-
   abbrev q : tie.At-loop Inv-loop μ-loop
-  q = c .before .before .before .before .before
+  q = c .before .before .before .before .before .before
+
+  abbrev a : tie.Start Inv-loop μ-loop
+  a = q .before .before .before .before .before .before
+
+  abbrev row : tie.After-disc-of2 Inv-loop μ-loop
+  row = c .before .before .before .before
 
   least : toZ w64 (ofZ w64 (c .before .before .lesser .result)) ≡ leastTo (marginAt (a .args .z) (a .args .image .now)) (q .loop .i + 1 - 1)
   least =
       let r = c .before .before .lesser in
-      let m = c .before .before .before .margin2 in
-      back (r .result) (r .ok) ∙ (rw (back (m .result) (m .ok), m .ensures, q .loop .inv .1 .1 .0) at (r .ensures)) ∙ sym (least-next (marginAt (a .args .z) (a .args .image .now)) (q .loop .i) (q .loop .inv .0))
+      let m = row .disc-of2 in
+      back (r .result) (r .ok)
+      ∙ (rw (back (m .result .margin) (c .before .before .before .struct-told3 .given .0 .1), m .ensures .0, q .loop .inv .1 .1 .0) at (r .ensures))
+      ∙ sym (least-next (marginAt (a .args .z) (a .args .image .now)) (q .loop .i) (q .loop .inv .0))
 
   largest : toZ w64 (ofZ w64 (c .greater .result)) ≡ largestTo (totalAt (a .args .z) (a .args .image .now)) (q .loop .i + 1 - 1)
   largest =
       let r = c .greater in
-      let t = c .before .total2 in
-      back (r .result) (r .ok) ∙ (rw (back (t .result) (t .ok), t .ensures, q .loop .inv .1 .1 .1) at (r .ensures)) ∙ sym (largest-next (totalAt (a .args .z) (a .args .image .now)) (q .loop .i) (q .loop .inv .0))
+      let t = row .disc-of2 in
+      back (r .result) (r .ok)
+      ∙ (rw (back (t .result .total) (c .before .struct-told4 .given .1 .0 .1), t .ensures .1, q .loop .inv .1 .1 .1) at (r .ensures))
+      ∙ sym (largest-next (totalAt (a .args .z) (a .args .image .now)) (q .loop .i) (q .loop .inv .0))
 
 mul-n : tie.Need-mul-n Inv-loop μ-loop
 mul-n c = omega arith
 
-margin-requires : tie.Need-margin-requires Inv-loop μ-loop
-margin-requires c κs = (c .before .before .pre, c .before .before .pre .sizes .n-low)
-
-total-requires : tie.Need-total-requires Inv-loop μ-loop
-total-requires c κs = (c .before .before .before .pre, c .before .before .before .pre .sizes .n-low)
+disc-of-requires : tie.Need-disc-of-requires Inv-loop μ-loop
+disc-of-requires c κs = (c .before .before .pre, c .before .before .pre .sizes .n-low)
 
 loop-holds : tie.Need-loop-holds Inv-loop μ-loop
 loop-holds c =
-    let m = c .before .margin in
-    let t = c .total in
-    (omega arith, (omega (arith, c .before .before .before .before .pre .sizes .n-low), (back (m .result) (m .ok) ∙ m .ensures, back (t .result) (t .ok) ∙ t .ensures)))
+    let r = c .before .before .disc-of in
+    let f = c .before .struct-told .given in
+    (omega arith, (omega (arith, c .before .before .before .before .before .pre .sizes .n-low), (back (r .result .margin) (f .0 .1) ∙ r .ensures .0, back (r .result .total) (f .1 .0 .1) ∙ r .ensures .1)))
 
-margin-requires-2 : tie.Need-margin-requires-2 Inv-loop μ-loop
-margin-requires-2 c κs = (c .before .before .before .before .before .before .pre, c .loop-test .taken)
+disc-of-requires-2 : tie.Need-disc-of-requires-2 Inv-loop μ-loop
+disc-of-requires-2 c κs = (c .before .before .before .before .before .before .before .pre, c .loop-test .taken)
 
 lesser-requires : tie.Need-lesser-requires Inv-loop μ-loop
 lesser-requires c κs = tt
-
-total-requires-2 : tie.Need-total-requires-2 Inv-loop μ-loop
-total-requires-2 c κs = (c .before .before .before .before .before .before .before .before .pre, c .before .before .loop-test .taken)
 
 greater-requires : tie.Need-greater-requires Inv-loop μ-loop
 greater-requires c κs = tt
 
 add-i : tie.Need-add-i Inv-loop μ-loop
-add-i c = omega (arith, c .before .before .before .before .before .before .before .before .before .before .pre .sizes .n-high)
+add-i c = omega (arith, a c .pre .sizes .n-high)
 
 loop-less : tie.Need-loop-less Inv-loop μ-loop
 loop-less c = omega arith
@@ -76,7 +77,7 @@ loop-again c = (omega arith, (omega arith, (least c, largest c)))
 returns : tie.Need-returns Inv-loop μ-loop
 unfolding leastMargin largestTotal
 returns c =
-    let a = c .before .before .before .before .before .before .args in
+    let a = c .before .before .before .before .before .before .before .args in
     let l = c .before .loop in
     let e : l .i - 1 ≡ commandCount (a .z) - 1 = omega arith in
     (l .inv .1 .1 .0 ∙ ap (leastTo (marginAt (a .z) (a .image .now))) e, l .inv .1 .1 .1 ∙ ap (largestTo (totalAt (a .z) (a .image .now))) e)
@@ -88,12 +89,10 @@ extremes-of-spec =
     Inv-loop
     μ-loop
     mul-n
-    margin-requires
-    total-requires
+    disc-of-requires
     loop-holds
-    margin-requires-2
+    disc-of-requires-2
     lesser-requires
-    total-requires-2
     greater-requires
     add-i
     loop-less

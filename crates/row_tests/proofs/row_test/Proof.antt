@@ -32,32 +32,17 @@ is-symmetric-requires c κs = search needs
 enum-told-4 : tie.Need-enum-told-4
 enum-told-4 c = search needs
 
-margin-requires : tie.Need-margin-requires
-margin-requires c κs = search needs
-
-enum-told-5 : tie.Need-enum-told-5
-enum-told-5 c = search needs
-
-total-requires : tie.Need-total-requires
-total-requires c κs = search needs
-
-power-requires : tie.Need-power-requires
-power-requires c κs = search needs
-
-enum-told-6 : tie.Need-enum-told-6
-enum-told-6 c = search needs
-
 point-passes-requires : tie.Need-point-passes-requires
 point-passes-requires c κs = search needs
 
-enum-told-7 : tie.Need-enum-told-7
-enum-told-7 c = search needs
+enum-told-5 : tie.Need-enum-told-5
+enum-told-5 c = search needs
 
 row-passes-requires : tie.Need-row-passes-requires
 unfolding TestRoom
 row-passes-requires c κs =
     let a = c .before .before .before in
-    let r = rw (c .enum-told7 .given .1) at (a .pre .0) in
+    let r = rw (c .enum-told5 .given .1) at (a .pre .0) in
     ((r .whole, r .room), a .pre .1)
 
 returns : tie.Need-returns
@@ -77,22 +62,11 @@ returns-3 c = rw (c .before .enum-told3 .given .1) (c .is-symmetric .ensures)
 
 returns-4 : tie.Need-returns-4
 unfolding testAt
-returns-4 c = rw (back (c .margin .result) (c .margin .ok), c .before .enum-told4 .given .1) (cc (c .margin .ensures))
+returns-4 c = rw (c .before .enum-told4 .given .1) (c .point-passes .ensures)
 
 returns-5 : tie.Need-returns-5
 unfolding testAt
-returns-5 c =
-    let t = c .before .total in
-    let p = c .power in
-    rw (back (t .result) (t .ok), back (p .result) (p .ok), c .before .before .enum-told5 .given .1) (cc (t .ensures, p .ensures .0))
-
-returns-6 : tie.Need-returns-6
-unfolding testAt
-returns-6 c = rw (c .before .enum-told6 .given .1) (c .point-passes .ensures)
-
-returns-7 : tie.Need-returns-7
-unfolding testAt
-returns-7 c = rw (c .before .enum-told7 .given .1) (c .row-passes .ensures)
+returns-5 c = rw (c .before .enum-told5 .given .1) (c .row-passes .ensures)
 
 pub row-test-spec : {M : Type 1} → statement M
 row-test-spec =
@@ -106,18 +80,11 @@ row-test-spec =
     enum-told-3
     is-symmetric-requires
     enum-told-4
-    margin-requires
-    enum-told-5
-    total-requires
-    power-requires
-    enum-told-6
     point-passes-requires
-    enum-told-7
+    enum-told-5
     row-passes-requires
     returns
     returns-2
     returns-3
     returns-4
-    returns-5
-    returns-6
-    returns-7)
+    returns-5)
