@@ -1,12 +1,13 @@
 // Checks 8 to 10 of a row of H: its symmetry, its margin and its total.
 ghost use mathlib.Core.Path.{_≡_};
+ghost use mathlib.Core.Bool.{cond};
 ghost use Prim.Native.Nat.{_^_, _≤_, _<_};
+ghost use lib.Dec.{eqb};
 ghost use lib.IntN.{pos, natAbs};
 ghost use Rattle.image.specs.Sizes.{Whole, commandCount};
 ghost use Rattle.image.specs.Layout.{costAt};
 ghost use Rattle.interface.specs.Tables.{eqZ, othersAt, marginAt, totalAt, symmetryTest};
 use image::Sizes;
-use row_sums::Term;
 
 // The margin and the total of a row.
 pub struct Disc {
@@ -22,17 +23,6 @@ pub fn power(b: u32) -> i64
     1 << b
 }
 
-// The sum of the magnitudes off the diagonal of row i of H. The row is the part of the image that starts at its offset.
-fn others(image: &[u8], z: Sizes, i: usize) -> i64
-    requires { ⌜ Whole z (now image) × (i < commandCount z) ⌝ }
-    ensures { λ r. ⌜ (r ≡ pos (othersAt z (now (image .entry)) i)) × (natAbs r ≤ 2 ^ 35) ⌝ }
-{
-    let n = z.nu * z.steps;
-    let at = image::cost_offset(z, i);
-    // 16 magnitudes are at most 2^35, so this cap is never met
-    row_sums::sum_terms(image, &image[at..], z, Term::Other, i, n, 1 << 35) as i64
-}
-
 // Entry j of row i of H.
 fn cost_at(image: &[u8], z: Sizes, i: usize, j: usize) -> i64
     requires { ⌜ Whole z (now image) × ((i < commandCount z) × (j < commandCount z)) ⌝ }
@@ -42,13 +32,39 @@ fn cost_at(image: &[u8], z: Sizes, i: usize, j: usize) -> i64
     word::word_at(&image[at..], 4 * j)
 }
 
+// The magnitude of entry j of row i of H, 0 on the diagonal.
+fn other_at(image: &[u8], z: Sizes, i: usize, j: usize) -> u64
+    requires { ⌜ Whole z (now image) × ((i < commandCount z) × (j < commandCount z)) ⌝ }
+    ensures { λ r. ⌜ (r ≡ cond (eqb i j) 0 (natAbs (costAt z (now (image .entry)) i j))) × (r ≤ 2 ^ 31) ⌝ }
+{
+    if i == j {
+        return 0;
+    }
+    integer::magnitude(cost_at(image, z, i, j))
+}
+
+// The sum of the magnitudes off the diagonal of row i of H.
+fn others(image: &[u8], z: Sizes, i: usize) -> u64
+    requires { ⌜ Whole z (now image) × (i < commandCount z) ⌝ }
+    ensures { λ r. ⌜ (r ≡ othersAt z (now (image .entry)) i) × (r ≤ 2 ^ 35) ⌝ }
+{
+    let n = z.nu * z.steps;
+    let mut s: u64 = 0;
+    let mut j = 0;
+    while j < n {
+        s += other_at(image, z, i, j);
+        j += 1;
+    }
+    s
+}
+
 // The ends of row i's Gershgorin disc: its diagonal less the others, and plus them.
 pub fn disc_of(image: &[u8], z: Sizes, i: usize) -> Disc
     requires { ⌜ Whole z (now image) × (i < commandCount z) ⌝ }
     ensures { λ r. ⌜ (r .margin ≡ marginAt z (now (image .entry)) i) × (r .total ≡ totalAt z (now (image .entry)) i) ⌝ }
 {
     let diagonal = cost_at(image, z, i, i);
-    let radius = others(image, z, i);
+    let radius = others(image, z, i) as i64;
     let margin = diagonal - radius;
     let total = diagonal + radius;
     Disc { margin, total }

@@ -1,4 +1,4 @@
--- A row as a part of the image, its terms, and the sums A, B and of the others. Assumes nothing.
+-- A row as a part of the image, its terms, and the sums A and B. Assumes nothing.
 use mathlib.Core.Path.{_≡_, refl, sym, ap, _∙_}
 use mathlib.Core.List.{List}
 use Prim.Native.Nat.{ℕ, _+_, _*_, _-_, _^_, _≤_, _<_}
@@ -23,18 +23,16 @@ use Rattle.image.specs.declared.Input.the-variants.{State, Target}
 use Rattle.image.specs.Sizes.{commandCount, inputCount, Sound}
 use Rattle.image.specs.Layout.{costOffset, gainOffset, entryAt, gainsOf, boundsOf, commandAt, problemAt}
 use Rattle.image.proofs.Sized.{input-most, row-end}
-use Rattle.interface.specs.Tables.{pointTest, othersAt}
+use Rattle.interface.specs.Tables.{pointTest}
 use Rattle.interface.proofs.Accept.{commands-length, command-at, bounds-count, input-bound-at, row-length, gains-count, gain-at}
-use Rattle.row_sums.specs.Terms.{termAt, termRow, termCount, termMost, PointsPass, TermsReady}
+use Rattle.row_sums.specs.Terms.{termAt, termRow, termCount, PointsPass, TermsReady}
 use Rattle.row_sums.specs.declared.Term.{Term}
-use Rattle.row_sums.specs.declared.Term.the-variants.{Other, Range, GainRange}
+use Rattle.row_sums.specs.declared.Term.the-variants.{Range, GainRange}
 
 -- ---- a row
 -- it has every term
 pub term-end : (t : Term) (z : Sizes) (s row : List ℕ) (i j : ℕ) → TermsReady t z s row i → j < termCount t z → 4 * j + 4 ≤ length row
 unfolding termRow termCount
-term-end Other z s row i j r h =
-    omega (arith, ap length (r .part), length-drop (costOffset z i) s, r .whole .size, row-end i (commandCount z) (commandCount z) (r .index))
 term-end Range z s row i j r h =
     omega (arith, ap length (r .part), length-drop (costOffset z i) s, r .whole .size, row-end i (commandCount z) (commandCount z) (r .index))
 term-end (GainRange State) z s row i j r h =
@@ -42,18 +40,11 @@ term-end (GainRange State) z s row i j r h =
 term-end (GainRange Target) z s row i j r h =
     omega (arith, ap length (r .part), length-drop (gainOffset Target z i) s, r .whole .size, row-end i (commandCount z) (z .nr) (r .index))
 
--- ---- how many terms, and how large they are
+-- ---- how many terms, and how large Y is
 pub count-most : (t : Term) (z : Sizes) → Sound z → termCount t z ≤ 16
 unfolding termCount
-count-most Other z h = h .n-high
 count-most Range z h = h .n-high
 count-most (GainRange v) z h = omega (arith, input-most v z h)
-
-pub term-most : (t : Term) → termMost t ≤ 2 ^ 62 + 2 ^ 51
-unfolding termMost
-term-most Other = omega arith
-term-most Range = omega arith
-term-most (GainRange v) = omega arith
 
 -- Y is in the word
 pub point-most : (z : Sizes) (s : List ℕ) (j : ℕ) → Sound z → PointsPass z s → j < commandCount z → rangeY (problemAt z s) (commandAt z s j) ≤ 2 ^ 31
@@ -66,10 +57,6 @@ point-most z s j sized points h =
 
 -- ---- the sums of a row as sums of its terms, A and B divided once
 module _ (z : Sizes) (s : List ℕ) (i : ℕ) where
-  pub others-terms : othersAt z s i ≡ sumN (termAt Other z s i) (commandCount z)
-  unfolding othersAt termAt
-  others-terms = sumN-cong _ _ (commandCount z) (λ j l. refl)
-
   entry-is : (j : ℕ) → j < commandCount z → getD (commandAt z s i .row) j (pos 0) ≡ entryAt z s i j
   unfolding commandAt
   entry-is j h = tab-at (entryAt z s i) (commandCount z) j (pos 0) h

@@ -1,42 +1,32 @@
--- One loop goes through the terms of a row for each of checks 9, 10 and 12: which term is a parameter, and this page says what each stands
--- for. Assumes nothing.
+-- One loop goes through the terms of a row for A and for B of check 12: which term is a parameter, and this page says what each stands for.
+-- Assumes nothing.
 use Prim.Native.Nat.{ℕ, _+_, _*_, _^_, _<_, _≤_}
 use mathlib.Core.Path.{_≡_}
-use mathlib.Core.Bool.{true, cond}
+use mathlib.Core.Bool.{true}
 use mathlib.Core.List.{List}
-use lib.Dec.{eqb}
 use lib.IntN.{ℤ, natAbs}
 use Rattle.gradient.specs.Bounds.{rangeY}
 use Rattle.gradient.specs.Index.{allTo}
 use Rattle.image.specs.declared.Sizes.{Sizes}
 use Rattle.image.specs.Sizes.{Whole, commandCount, inputCount}
-use Rattle.image.specs.Layout.{costRow, gainRow, costAt, gainAt, boundAt, entryAt, commandAt, problemAt}
+use Rattle.image.specs.Layout.{costRow, gainRow, gainAt, boundAt, entryAt, commandAt, problemAt}
 use Rattle.interface.specs.Tables.{pointTest}
 use Rattle.row_sums.specs.declared.Term.{Term}
-use Rattle.row_sums.specs.declared.Term.the-variants.{Other, Range, GainRange}
+use Rattle.row_sums.specs.declared.Term.the-variants.{Range, GainRange}
 
--- term j of row i: a magnitude off the diagonal, "|M| × Y", "|Φ| × state limit" or the target's
+-- term j of row i: "|M| × Y", "|Φ| × state limit" or the target's
 unfoldable pub termAt : Term → Sizes → List ℕ → ℕ → ℕ → ℕ
-termAt Other z s i j = cond (eqb i j) 0 (natAbs (costAt z s i j))
 termAt Range z s i j = natAbs (entryAt z s i j) * rangeY (problemAt z s) (commandAt z s j)
 termAt (GainRange v) z s i j = natAbs (gainAt v z s i j) * natAbs (boundAt v z s j)
 
 -- the row of the image that the terms are of, and how many they are
 unfoldable pub termRow : Term → Sizes → List ℕ → ℕ → List ℕ
-termRow Other z s i = costRow z s i
 termRow Range z s i = costRow z s i
 termRow (GainRange v) z s i = gainRow v z s i
 
 unfoldable pub termCount : Term → Sizes → ℕ
-termCount Other z = commandCount z
 termCount Range z = commandCount z
 termCount (GainRange v) z = inputCount v z
-
--- how large a term is: a magnitude of a word; a product of two, where an entry of M may be 2^b more than a word
-unfoldable pub termMost : Term → ℕ
-termMost Other = 2 ^ 31
-termMost Range = 2 ^ 62 + 2 ^ 51
-termMost (GainRange v) = 2 ^ 62 + 2 ^ 51
 
 -- an entry of M or of the gains times a bound in the word: the product fits 64 bits
 pub record Scalable (a : ℤ) (x : ℕ) : Type 0 where
@@ -49,7 +39,6 @@ PointsPass z s = allTo (pointTest z s) (commandCount z) ≡ true
 
 -- A is summed only once every Y is in the word: the products then fit 64 bits
 unfoldable pub TermRoom : Term → Sizes → List ℕ → Type 0
-TermRoom Other z s = Unit {0}
 TermRoom Range z s = PointsPass z s
 TermRoom (GainRange v) z s = Unit {0}
 

@@ -1,19 +1,14 @@
-// The sums of a row: of the magnitudes off the diagonal in 9 and 10, and those of A and B of 12 before they are divided.
+// The sums of a row: those of A and B of 12 before they are divided.
 ghost use mathlib.Core.Path.{_≡_};
-ghost use mathlib.Core.Bool.{cond};
 ghost use Prim.Native.Nat.{_+_, _*_, _^_, _≤_, _<_, min};
-ghost use lib.Dec.{eqb};
 ghost use lib.IntN.{natAbs};
-ghost use lib.ListN.{length};
-ghost use Rattle.word.specs.Word.{wordAt};
 ghost use Rattle.gradient.specs.Index.{sumN};
-ghost use Rattle.row_sums.specs.Terms.{termAt, termCount, termMost, Scalable, TermsReady};
+ghost use Rattle.row_sums.specs.Terms.{termAt, termCount, Scalable, TermsReady};
 use image::Input;
 use image::Sizes;
 
-// A term of a row's sum: of the others in 9 and 10, of A, and of B for the state and for the target.
+// A term of a row's sum: of A, and of B for the state and for the target.
 pub enum Term {
-    Other,
     Range,
     GainRange(Input),
 }
@@ -26,24 +21,12 @@ fn scaled(a: i64, x: u64) -> u64
     integer::magnitude(a) * x
 }
 
-// The magnitude of entry j of row i of H, 0 on the diagonal.
-fn other_at(row: &[u8], i: usize, j: usize) -> u64
-    requires { ⌜ 4 * j + 4 ≤ length (now row) ⌝ }
-    ensures { λ r. ⌜ (r ≡ cond (eqb i j) 0 (natAbs (wordAt (now (row .entry)) (4 * j)))) × (r ≤ 2 ^ 31) ⌝ }
-{
-    if i == j {
-        return 0;
-    }
-    magnitudes::size(word::word_at(row, 4 * j))
-}
-
 // Term j of row i.
 fn term_at(image: &[u8], row: &[u8], z: Sizes, t: Term, i: usize, j: usize) -> u64
     requires { ⌜ TermsReady t z (now image) (now row) i × (j < termCount t z) ⌝ }
-    ensures { λ r. ⌜ (r ≡ termAt t z (now (image .entry)) i j) × (r ≤ termMost t) ⌝ }
+    ensures { λ r. ⌜ (r ≡ termAt t z (now (image .entry)) i j) × (r ≤ 2 ^ 62 + 2 ^ 51) ⌝ }
 {
     match t {
-        Term::Other => other_at(row, i, j),
         Term::Range => scaled(
             image::entry(row, z.b, i, j),
             magnitudes::range_y(image, z, j),
@@ -55,7 +38,7 @@ fn term_at(image: &[u8], row: &[u8], z: Sizes, t: Term, i: usize, j: usize) -> u
     }
 }
 
-// The sum of the terms of row i, capped: with 16 terms it may pass 64 bits. Also, how large it is uncapped.
+// The sum of the terms of row i, capped: with 16 terms it may pass 64 bits.
 pub fn sum_terms(
     image: &[u8],
     row: &[u8],
@@ -66,7 +49,7 @@ pub fn sum_terms(
     cap: u64,
 ) -> u64
     requires { ⌜ (TermsReady t z (now image) (now row) i × (count ≡ termCount t z)) × (cap ≤ 2 ^ 52) ⌝ }
-    ensures { λ r. ⌜ (r ≡ min (sumN (termAt t z (now (image .entry)) i) count) cap) × (sumN (termAt t z (now (image .entry)) i) count ≤ count * termMost t) ⌝ }
+    ensures { λ r. ⌜ r ≡ min (sumN (termAt t z (now (image .entry)) i) count) cap ⌝ }
 {
     let mut s: u64 = 0;
     let mut j = 0;

@@ -1,76 +1,72 @@
 -- `dominance::others` meets its contract. Assumes nothing.
 use native.Mathlib.Omega.{arith}
-use mathlib.Core.Path.{_≡_, refl, sym, ap, _∙_}
-use Prim.Native.Nat.{ℕ, _^_, _≤_}
-use lib.IntN.{pos}
-use mir.Syntax.{w64}
-use mir.Facts.{toZ-pos}
-use Rattle.word.proofs.Buffer.{rest-from}
+use native.Mathlib.Numerals.{add-one}
+use mathlib.Core.Path.{_≡_, ap, _∙_}
+use mathlib.Core.Bool.{cond}
+use mathlib.Core.List.{List}
+use Prim.Native.Nat.{ℕ, _*_, _^_, _-_, _≤_}
+use lib.Dec.{eqb}
+use lib.IntN.{natAbs}
 use Rattle.gradient.specs.Index.{sumN}
+use Rattle.image.specs.declared.Sizes.{Sizes}
 use Rattle.image.specs.Sizes.{commandCount}
-use Rattle.row_sums.specs.Terms.{termAt, termRow, termCount, termMost, TermRoom}
-use Rattle.row_sums.specs.declared.Term.the-variants.{Other}
-use Rattle.row_sums.proofs.Rows.{others-terms}
-use borrow.Author.Needs.{needs}
+use Rattle.image.specs.Layout.{costAt}
+use Rattle.interface.specs.Tables.{othersAt}
 use Rattle.dominance.proofs.others.Statement.{statement}
 use Rattle.dominance.proofs.others.Tie as tie
 
--- the cap is not met
-module _ (c : tie.After-sum-terms) where
-  abbrev a : tie.Start
-  a = c .before .before .before .before .before
+-- what is summed
+abbrev other : Sizes → List ℕ → ℕ → ℕ → ℕ
+other z s i j = cond (eqb i j) 0 (natAbs (costAt z s i j))
 
-  abbrev others : ℕ
-  others = sumN (termAt Other (a .args .z) (a .args .image .now) (a .args .i)) (commandCount (a .args .z))
+abbrev Inv-loop : tie.InvT-loop
+Inv-loop image z i n s₀ j₀ s j = (j ≤ n) × ((s ≡ sumN (other z image i) j) × (s ≤ j * 2 ^ 31))
 
-  most : others ≤ 2 ^ 35
-  unfolding termMost
-  most = omega (arith, c .sum-terms .ensures .1, a .pre .0 .sizes .n-high)
+abbrev μ-loop : tie.MeasureT-loop
+μ-loop image z i n s₀ j₀ s j = n - j
 
-  whole : c .sum-terms .result ≡ others
-  whole = omega (arith, c .sum-terms .ensures .0, most)
+mul-n : tie.Need-mul-n Inv-loop μ-loop
+mul-n c = omega arith
 
-  small : c .sum-terms .result ≤ 2 ^ 35
-  small = omega (arith, whole, most)
+loop-holds : tie.Need-loop-holds Inv-loop μ-loop
+loop-holds c = (omega arith, (omega arith, omega arith))
 
-mul-n : tie.Need-mul-n
-mul-n c = search needs
+other-at-requires : tie.Need-other-at-requires Inv-loop μ-loop
+other-at-requires c κs = (c .before .before .before .before .pre .0, (c .before .before .before .before .pre .1, c .loop-test .taken))
 
-cost-offset-requires : tie.Need-cost-offset-requires
-cost-offset-requires c κs = search needs
+add-s : tie.Need-add-s Inv-loop μ-loop
+add-s c = omega (arith, c .before .before .before .before .before .pre .0 .sizes .n-high, c .other-at .ensures .1)
 
-sub-sum-terms : tie.Need-sub-sum-terms
-sub-sum-terms c = search needs
+add-j : tie.Need-add-j Inv-loop μ-loop
+add-j c = omega arith
 
-part-sum-terms-start : tie.Need-part-sum-terms-start
-part-sum-terms-start c = search needs
+loop-less : tie.Need-loop-less Inv-loop μ-loop
+loop-less c = omega arith
 
-part-sum-terms-end : tie.Need-part-sum-terms-end
-part-sum-terms-end c = search needs
+loop-again : tie.Need-loop-again Inv-loop μ-loop
+loop-again c =
+    let l = c .before .before .loop in
+    (omega arith, (rw (add-one (l .j)) (cc (l .inv .1 .0, c .other-at .ensures .0)), omega (arith, c .other-at .ensures .1)))
 
-sum-terms-requires : tie.Need-sum-terms-requires
-unfolding termRow termCount TermRoom
-sum-terms-requires c κs =
-    let a = c .before .before .before .before in
-    ((record { whole = a .pre .0; index = a .pre .1; part = rest-from (a .args .image .now) _ _ (c .before .cost-offset .ensures .0); room = tt }, refl), omega arith)
-
-cast-result : tie.Need-cast-result
-cast-result c = omega (arith, small c)
-
-returns : tie.Need-returns
+returns : tie.Need-returns Inv-loop μ-loop
+unfolding othersAt
 returns c =
-    let s = a c .args in
-    rw (toZ-pos w64 {n = c .sum-terms .result} (omega (arith, small c))) (ap pos (whole c ∙ sym (others-terms (s .z) (s .image .now) (s .i))), small c)
+    let a = c .before .before .before .before in
+    let l = c .before .loop in
+    let e : l .j ≡ commandCount (a .args .z) = omega arith in
+    (l .inv .1 .0 ∙ ap (sumN (other (a .args .z) (a .args .image .now) (a .args .i))) e, omega (arith, a .pre .0 .sizes .n-high))
 
 pub others-spec : {M : Type 1} → statement M
 others-spec =
     tie.close
     (tie.spec
+    Inv-loop
+    μ-loop
     mul-n
-    cost-offset-requires
-    sub-sum-terms
-    part-sum-terms-start
-    part-sum-terms-end
-    sum-terms-requires
-    cast-result
+    loop-holds
+    other-at-requires
+    add-s
+    add-j
+    loop-less
+    loop-again
     returns)

@@ -33,7 +33,7 @@ sum-terms-requires c κs =
 returns : tie.Need-returns
 returns c =
     let a = c .before .before .before .before .before .args in
-    c .sum-terms .ensures .0 ∙ ap (λ (n : ℕ). min (sumN (termAt (GainRange (a .v)) (a .z) (a .image .now) (a .i)) n) (a .cap)) (c .before .before .input-count .ensures)
+    c .sum-terms .ensures ∙ ap (λ (n : ℕ). min (sumN (termAt (GainRange (a .v)) (a .z) (a .image .now) (a .i)) n) (a .cap)) (c .before .before .input-count .ensures)
 
 pub gain-range-spec : {M : Type 1} → statement M
 gain-range-spec =

@@ -42,7 +42,7 @@ module _ (c : tie.After-smaller) where
   cap-is = d .before .before .before .sum-cap .ensures .0
 
   range-is : d .sum-terms .result ≡ min range cap
-  range-is = d .sum-terms .ensures .0 ∙ ap (min range) cap-is
+  range-is = d .sum-terms .ensures ∙ ap (min range) cap-is
 
   state-is : c .before .before .gain-range .result ≡ min (gains State) cap
   state-is = c .before .before .gain-range .ensures ∙ ap (min (gains State)) cap-is

@@ -1,17 +1,16 @@
 -- `row_sums::sum_terms` meets its contract: no turn leaves 64 bits, though the sum itself may. Assumes nothing.
 use native.Mathlib.Omega.{arith}
-use native.Mathlib.Numerals.{add-one}
 use mathlib.Core.Path.{_≡_, _∙_}
-use Prim.Native.Nat.{_+_, _*_, _-_, _^_, _≤_, _<_, min}
+use Prim.Native.Nat.{_-_, _≤_, _<_, min}
 use Rattle.gradient.specs.Index.{sumN}
 use Rattle.gradient.proofs.Capped.{capped-next}
-use Rattle.row_sums.specs.Terms.{termAt, termMost}
-use Rattle.row_sums.proofs.Rows.{count-most, term-most}
+use Rattle.row_sums.specs.Terms.{termAt}
+use Rattle.row_sums.proofs.Rows.{count-most}
 use Rattle.row_sums.proofs.sum_terms.Statement.{statement}
 use Rattle.row_sums.proofs.sum_terms.Tie as tie
 
 abbrev Inv-loop : tie.InvT-loop
-Inv-loop image row z t i count cap s₀ j₀ s j = (j ≤ count) × ((s ≡ min (sumN (termAt t z image i) j) cap) × (sumN (termAt t z image i) j ≤ j * termMost t))
+Inv-loop image row z t i count cap s₀ j₀ s j = (j ≤ count) × (s ≡ min (sumN (termAt t z image i) j) cap)
 
 abbrev μ-loop : tie.MeasureT-loop
 μ-loop image row z t i count cap s₀ j₀ s j = count - j
@@ -24,17 +23,14 @@ module _ (c : tie.After-term-at Inv-loop μ-loop) where
   few : c .before .before .loop .j < 16
   few = omega (arith, count-most (a .args .t) (a .args .z) (a .pre .0 .0 .whole .sizes))
 
-  room : c .term-at .result ≤ 2 ^ 62 + 2 ^ 51
-  room = omega (arith, c .term-at .ensures .1, term-most (a .args .t))
-
 loop-holds : tie.Need-loop-holds Inv-loop μ-loop
-loop-holds c = (omega arith, (omega arith, omega arith))
+loop-holds c = (omega arith, omega arith)
 
 term-at-requires : tie.Need-term-at-requires Inv-loop μ-loop
 term-at-requires c κs = (c .before .before .before .before .pre .0 .0, omega arith)
 
 add-smaller : tie.Need-add-smaller Inv-loop μ-loop
-add-smaller c = record { fits = omega (arith, room c, c .before .before .loop .inv .1 .0, a c .pre .1) }
+add-smaller c = record { fits = omega (arith, c .term-at .ensures .1, c .before .before .loop .inv .1, a c .pre .1) }
 
 smaller-requires : tie.Need-smaller-requires Inv-loop μ-loop
 smaller-requires c κs = tt
@@ -50,10 +46,8 @@ loop-again c =
     let d = c .before in
     let l = d .before .before .loop in
     let s = a d .args in
-    let g = termAt (s .t) (s .z) (s .image .now) (s .i) in (
-      omega arith,
-      (c .smaller .ensures ∙ rw (l .inv .1 .0, d .term-at .ensures .0) (capped-next g (s .cap) (l .j)), rw (add-one (l .j)) (omega (arith, d .term-at .ensures .0, d .term-at .ensures .1, l .inv .1 .1))),
-    )
+    let g = termAt (s .t) (s .z) (s .image .now) (s .i) in
+    (omega arith, c .smaller .ensures ∙ rw (l .inv .1, d .term-at .ensures .0) (capped-next g (s .cap) (l .j)))
 
 returns : tie.Need-returns Inv-loop μ-loop
 returns c =

@@ -1,19 +1,16 @@
 -- `row_sums::term_at` meets its contract. Assumes nothing.
 use native.Mathlib.Omega.{arith}
 use mathlib.Core.Path.{_≡_, ap, _∙_}
-use mathlib.Core.Bool.{cond}
 use mathlib.Core.List.{List}
 use Prim.Native.Nat.{ℕ, _+_, _*_, _≤_, _<_}
-use lib.Dec.{eqb}
-use lib.IntN.{natAbs}
 use lib.ListN.{length}
 use lib.Signed.{natAbs-le}
 use Rattle.integer.proofs.Machine.{back}
 use Rattle.word.specs.Word.{wordAt}
 use Rattle.image.specs.Layout.{entryOf, entryAt, gainAt}
-use Rattle.row_sums.specs.Terms.{termAt, termRow, termCount, termMost, TermRoom, TermsReady}
+use Rattle.row_sums.specs.Terms.{termAt, termRow, termCount, TermRoom, TermsReady}
 use Rattle.row_sums.specs.declared.Term.{Term}
-use Rattle.row_sums.specs.declared.Term.the-variants.{Other, Range, GainRange}
+use Rattle.row_sums.specs.declared.Term.the-variants.{Range, GainRange}
 use Rattle.row_sums.proofs.Rows.{term-end, point-most}
 use borrow.Author.Needs.{needs}
 use Rattle.row_sums.proofs.term_at.Statement.{statement}
@@ -27,23 +24,14 @@ long a = term-end (a .args .t) (a .args .z) (a .args .image .now) (a .args .row 
 abbrev Ready : Term → tie.Start → Type 0
 Ready t a = TermsReady t (a .args .z) (a .args .image .now) (a .args .row .now) (a .args .i) × (a .args .j < termCount t (a .args .z))
 
-other-ready : (c : tie.After-enum-told) → Ready Other (c .before .before .before .before)
-other-ready c = rw (c .enum-told .given .1) at (c .before .before .before .before .pre)
-
-range-ready : (c : tie.After-enum-told2) → Ready Range (c .before .before .before .before)
-range-ready c = rw (c .enum-told2 .given .1) at (c .before .before .before .before .pre)
+range-ready : (c : tie.After-enum-told) → Ready Range (c .before .before .before .before)
+range-ready c = rw (c .enum-told .given .1) at (c .before .before .before .before .pre)
 
 gain-ready : (c : tie.After-known-told) → Ready (GainRange (c .before .t .given .0 .0)) (c .before .before .before .before .before)
 gain-ready c = rw (c .before .t .given .1) at (c .before .before .before .before .before .pre)
 
 enum-told : tie.Need-enum-told
 enum-told c = search needs
-
-other-at-requires : tie.Need-other-at-requires
-other-at-requires c κs = long (c .before .before .before .before)
-
-enum-told-2 : tie.Need-enum-told-2
-enum-told-2 c = search needs
 
 entry-requires : tie.Need-entry-requires
 entry-requires c κs = (omega arith, long (c .before .before .before .before))
@@ -91,25 +79,18 @@ scaled-requires-2 c κs =
     })
 
 returns : tie.Need-returns
-unfolding termAt termMost termRow
+unfolding termAt termRow
 returns c =
-    let d = c .before in
-    let a = d .before .before .before .before .args in
-    rw (d .enum-told .given .1) (c .other-at .ensures .0 ∙ ap (λ (l : List ℕ). cond (eqb (a .i) (a .j)) 0 (natAbs (wordAt l (4 * a .j)))) (other-ready d .0 .part), c .other-at .ensures .1)
-
-returns-2 : tie.Need-returns-2
-unfolding termAt termMost termRow
-returns-2 c =
     let d = c .before .before .before in
     let a = d .before .before .before .before .args in
     let x = c .before .before .entry in
     let e : x .result ≡ entryAt (a .z) (a .image .now) (a .i) (a .j) = x .ensures .0 ∙ ap (λ (l : List ℕ). entryOf (a .z .b) l (a .i) (a .j)) (range-ready d .0 .part) in
     let q = rw (back (x .result) (x .ok)) at (c .scaled .ensures .0) in
-    rw (d .enum-told2 .given .1) (cc (q, e, c .before .range-y .ensures), c .scaled .ensures .1)
+    rw (d .enum-told .given .1) (cc (q, e, c .before .range-y .ensures), c .scaled .ensures .1)
 
-returns-3 : tie.Need-returns-3
-unfolding termAt termMost termRow
-returns-3 c =
+returns-2 : tie.Need-returns-2
+unfolding termAt termRow
+returns-2 c =
     let d = c .before .before .before .before in
     let a = d .before .before .before .before .before .args in
     let w = c .before .word-at in
@@ -124,8 +105,6 @@ term-at-spec =
     tie.close
     (tie.spec
     enum-told
-    other-at-requires
-    enum-told-2
     entry-requires
     range-y-requires
     scaled-requires
@@ -136,5 +115,4 @@ term-at-spec =
     word-at-requires
     scaled-requires-2
     returns
-    returns-2
-    returns-3)
+    returns-2)
