@@ -5,7 +5,7 @@ ghost use Rattle.word.specs.Format.{top};
 ghost use Rattle.gradient.specs.Index.{sumN};
 ghost use Rattle.image.specs.Sizes.{Sound, Whole, commandCount, inputCount};
 ghost use Rattle.interface.specs.Tables.{pointTest, rowTest};
-ghost use Rattle.row_sums.specs.Terms.{PointsPass, termAt};
+ghost use Rattle.row_sums.specs.Terms.{RangesReady, termAt};
 ghost use Rattle.row_sums.specs.declared.Term.the-variants.{GainRange};
 use image::Input;
 use image::Sizes;
@@ -42,27 +42,27 @@ fn sum_cap(z: Sizes) -> u64
 }
 
 // What an input adds to the sum of B of row i, capped.
-fn gain_range(image: &[u8], z: Sizes, v: Input, i: usize, cap: u64) -> u64
-    requires { ⌜ (Whole z (now image) × (i < commandCount z)) × (cap ≤ 2 ^ 52) ⌝ }
+fn gain_range(image: &[u8], y: &[u64; 16], z: Sizes, v: Input, i: usize, cap: u64) -> u64
+    requires { ⌜ (RangesReady z (now image) (now y) × (i < commandCount z)) × (cap ≤ 2 ^ 52) ⌝ }
     ensures { λ r. ⌜ r ≡ min (sumN (termAt (GainRange v) z (now (image .entry)) i) (inputCount v z)) cap ⌝ }
 {
     let at = image::gain_offset(z, v, i);
     let count = image::input_count(z, v);
-    row_sums::sum_terms(image, &image[at..], z, Term::GainRange(v), i, count, cap)
+    row_sums::sum_terms(image, &image[at..], y, z, Term::GainRange(v), i, count, cap)
 }
 
-// Whether A + B of row i is in the word. A is summed only once every Y is in the word, so that its products fit 64 bits.
-pub fn row_passes(image: &[u8], z: Sizes, i: usize) -> bool
-    requires { ⌜ (Whole z (now image) × PointsPass z (now image)) × (i < commandCount z) ⌝ }
+// Whether A + B of row i is in the word, with every Y in y. A is summed only once every Y is in the word, so that its products fit 64 bits.
+pub fn row_passes(image: &[u8], y: &[u64; 16], z: Sizes, i: usize) -> bool
+    requires { ⌜ RangesReady z (now image) (now y) × (i < commandCount z) ⌝ }
     ensures { λ r. ⌜ r ≡ rowTest z (now (image .entry)) i ⌝ }
 {
     let n = z.nu * z.steps;
     let most = top_word(z);
     let cap = sum_cap(z);
     let cost = image::cost_offset(z, i);
-    let a = row_sums::sum_terms(image, &image[cost..], z, Term::Range, i, n, cap);
-    let state = gain_range(image, z, Input::State, i, cap);
-    let target = gain_range(image, z, Input::Target, i, cap);
+    let a = row_sums::sum_terms(image, &image[cost..], y, z, Term::Range, i, n, cap);
+    let state = gain_range(image, y, z, Input::State, i, cap);
+    let target = gain_range(image, y, z, Input::Target, i, cap);
     let b = integer::smaller(state + target, cap);
     integer::ceil_div(a, z.b) + integer::ceil_div(b, z.b) <= most
 }

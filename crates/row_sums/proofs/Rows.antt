@@ -31,14 +31,14 @@ use Rattle.row_sums.specs.declared.Term.the-variants.{Range, GainRange}
 
 -- ---- a row
 -- it has every term
-pub term-end : (t : Term) (z : Sizes) (s row : List ℕ) (i j : ℕ) → TermsReady t z s row i → j < termCount t z → 4 * j + 4 ≤ length row
+pub term-end : (t : Term) (z : Sizes) (s row y : List ℕ) (i j : ℕ) → TermsReady t z s row y i → j < termCount t z → 4 * j + 4 ≤ length row
 unfolding termRow termCount
-term-end Range z s row i j r h =
-    omega (arith, ap length (r .part), length-drop (costOffset z i) s, r .whole .size, row-end i (commandCount z) (commandCount z) (r .index))
-term-end (GainRange State) z s row i j r h =
-    omega (arith, ap length (r .part), length-drop (gainOffset State z i) s, r .whole .size, row-end i (commandCount z) (z .nx) (r .index))
-term-end (GainRange Target) z s row i j r h =
-    omega (arith, ap length (r .part), length-drop (gainOffset Target z i) s, r .whole .size, row-end i (commandCount z) (z .nr) (r .index))
+term-end Range z s row y i j r h =
+    omega (arith, ap length (r .part), length-drop (costOffset z i) s, r .ready .whole .size, row-end i (commandCount z) (commandCount z) (r .index))
+term-end (GainRange State) z s row y i j r h =
+    omega (arith, ap length (r .part), length-drop (gainOffset State z i) s, r .ready .whole .size, row-end i (commandCount z) (z .nx) (r .index))
+term-end (GainRange Target) z s row y i j r h =
+    omega (arith, ap length (r .part), length-drop (gainOffset Target z i) s, r .ready .whole .size, row-end i (commandCount z) (z .nr) (r .index))
 
 -- ---- how many terms, and how large Y is
 pub count-most : (t : Term) (z : Sizes) → Sound z → termCount t z ≤ 16

@@ -5,6 +5,7 @@ use mathlib.Core.Path.{_≡_}
 use mathlib.Core.Bool.{true}
 use mathlib.Core.List.{List}
 use lib.IntN.{ℤ, natAbs}
+use Rattle.array.specs.Arrays.{Filled}
 use Rattle.gradient.specs.Bounds.{rangeY}
 use Rattle.gradient.specs.Index.{allTo}
 use Rattle.image.specs.declared.Sizes.{Sizes}
@@ -37,13 +38,17 @@ pub record Scalable (a : ℤ) (x : ℕ) : Type 0 where
 abbrev pub PointsPass : Sizes → List ℕ → Type 0
 PointsPass z s = allTo (pointTest z s) (commandCount z) ≡ true
 
--- A is summed only once every Y is in the word: the products then fit 64 bits
-unfoldable pub TermRoom : Term → Sizes → List ℕ → Type 0
-TermRoom Range z s = PointsPass z s
-TermRoom (GainRange v) z s = Unit {0}
+-- y holds the Y of every command
+abbrev pub RangesY : Sizes → List ℕ → List ℕ → Type 0
+RangesY z s y = Filled 0 (commandCount z) (λ (k : ℕ). rangeY (problemAt z s) (commandAt z s k)) y
 
-pub record TermsReady (t : Term) (z : Sizes) (s row : List ℕ) (i : ℕ) : Type 0 where
+-- A is summed only once every Y is in the word: the products then fit 64 bits
+pub record RangesReady (z : Sizes) (s y : List ℕ) : Type 0 where
   pub whole : Whole z s
+  pub points : PointsPass z s
+  pub ranges : RangesY z s y
+
+pub record TermsReady (t : Term) (z : Sizes) (s row y : List ℕ) (i : ℕ) : Type 0 where
+  pub ready : RangesReady z s y
   pub index : i < commandCount z
   pub part : row ≡ termRow t z s i
-  pub room : TermRoom t z s

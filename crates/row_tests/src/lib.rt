@@ -6,16 +6,17 @@ ghost use lib.Signed.{leZ};
 ghost use Rattle.gradient.specs.Index.{allTo};
 ghost use Rattle.image.specs.Sizes.{Whole, commandCount};
 ghost use Rattle.image.specs.Layout.{lowerAt, upperAt};
-ghost use Rattle.row_tests.specs.Tests.{testAt, TestReady};
+ghost use Rattle.interface.specs.Tables.{rowTest};
+ghost use Rattle.row_sums.specs.Terms.{PointsPass};
+ghost use Rattle.row_tests.specs.Tests.{testAt};
 use image::Sizes;
 
-// A test of each row: 7, 17, 8, and the two of 12.
+// A test of each row: 7, 17, 8, and the first of 12.
 pub enum Test {
     Ordered,
     Stoppable,
     Symmetric,
     Point,
-    Row,
 }
 
 // Whether x is within the limits of command k: 17 of zero, 14 of a start.
@@ -31,7 +32,7 @@ pub fn is_inside(image: &[u8], z: Sizes, k: usize, x: i64) -> bool
 
 // Whether row i passes a test.
 fn row_test(image: &[u8], z: Sizes, t: Test, i: usize) -> bool
-    requires { ⌜ TestReady t z (now image) × (i < commandCount z) ⌝ }
+    requires { ⌜ Whole z (now image) × (i < commandCount z) ⌝ }
     ensures { λ r. ⌜ r ≡ testAt t z (now (image .entry)) i ⌝ }
 {
     match t {
@@ -39,19 +40,35 @@ fn row_test(image: &[u8], z: Sizes, t: Test, i: usize) -> bool
         Test::Stoppable => is_inside(image, z, i, 0),
         Test::Symmetric => dominance::is_symmetric(image, z, i),
         Test::Point => headroom::point_passes(image, z, i),
-        Test::Row => headroom::row_passes(image, z, i),
     }
 }
 
 // Whether each row passes a test.
 pub fn rows_pass(image: &[u8], z: Sizes, t: Test) -> bool
-    requires { ⌜ TestReady t z (now image) ⌝ }
+    requires { ⌜ Whole z (now image) ⌝ }
     ensures { λ r. ⌜ r ≡ allTo (testAt t z (now (image .entry))) (commandCount z) ⌝ }
 {
     let n = z.nu * z.steps;
     let mut i = 0;
     while i < n {
         if !row_test(image, z, t, i) {
+            return false;
+        }
+        i += 1;
+    }
+    true
+}
+
+// Whether each row passes the second test of 12: A + B is in the word. Every Y is worked out once.
+pub fn sums_pass(image: &[u8], z: Sizes) -> bool
+    requires { ⌜ Whole z (now image) × PointsPass z (now image) ⌝ }
+    ensures { λ r. ⌜ r ≡ allTo (rowTest z (now (image .entry))) (commandCount z) ⌝ }
+{
+    let n = z.nu * z.steps;
+    let y = row_sums::ranges_y(image, z);
+    let mut i = 0;
+    while i < n {
+        if !headroom::row_passes(image, &y, z, i) {
             return false;
         }
         i += 1;

@@ -35,7 +35,7 @@ pub fn tables_number(image: &[u8], z: Sizes) -> u32
     if !row_tests::rows_pass(image, z, Test::Point) {
         return 12;
     }
-    if row_tests::rows_pass(image, z, Test::Row) {
+    if row_tests::sums_pass(image, z) {
         0
     } else {
         12

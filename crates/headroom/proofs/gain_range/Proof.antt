@@ -3,7 +3,7 @@ use mathlib.Core.Path.{ap, _∙_}
 use Prim.Native.Nat.{ℕ, min}
 use Rattle.word.proofs.Buffer.{rest-from}
 use Rattle.gradient.specs.Index.{sumN}
-use Rattle.row_sums.specs.Terms.{termAt, termRow, termCount, TermRoom}
+use Rattle.row_sums.specs.Terms.{termAt, termRow, termCount}
 use Rattle.row_sums.specs.declared.Term.the-variants.{GainRange}
 use borrow.Author.Needs.{needs}
 use Rattle.headroom.proofs.gain_range.Statement.{statement}
@@ -25,10 +25,10 @@ part-sum-terms-end : tie.Need-part-sum-terms-end
 part-sum-terms-end c = search needs
 
 sum-terms-requires : tie.Need-sum-terms-requires
-unfolding termRow termCount TermRoom
+unfolding termRow termCount
 sum-terms-requires c κs =
     let a = c .before .before .before .before in
-    ((record { whole = a .pre .0 .0; index = a .pre .0 .1; part = rest-from (a .args .image .now) _ _ (c .before .before .gain-offset .ensures .0); room = tt }, c .before .input-count .ensures), a .pre .1)
+    ((record { ready = a .pre .0 .0; index = a .pre .0 .1; part = rest-from (a .args .image .now) _ _ (c .before .before .gain-offset .ensures .0) }, c .before .input-count .ensures), a .pre .1)
 
 returns : tie.Need-returns
 returns c =

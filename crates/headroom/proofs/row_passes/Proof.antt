@@ -14,12 +14,16 @@ use Rattle.image.specs.declared.Input.{Input}
 use Rattle.image.specs.declared.Input.the-variants.{State, Target}
 use Rattle.image.specs.Sizes.{commandCount, inputCount}
 use Rattle.interface.specs.Tables.{rowTest}
-use Rattle.row_sums.specs.Terms.{termAt, termRow, termCount, TermRoom}
+use Rattle.row_sums.specs.Terms.{termAt, termRow, termCount}
 use Rattle.row_sums.specs.declared.Term.the-variants.{Range, GainRange}
 use Rattle.row_sums.proofs.Rows.{range-terms, gain-terms}
 use borrow.Author.Needs.{needs}
 use Rattle.headroom.proofs.row_passes.Statement.{statement}
 use Rattle.headroom.proofs.row_passes.Tie as tie
+
+-- a sum of two, capped or tested
+same-sum : {A : Type 0} (f : ℕ → ℕ → A) {a b t x y u : ℕ} → a ≡ x → b ≡ y → t ≡ u → f (a + b) t ≡ f (x + y) u
+same-sum f p q r = rw (p, q, r) refl
 
 -- the sums of A and of B, capped
 module _ (c : tie.After-smaller) where
@@ -51,7 +55,7 @@ module _ (c : tie.After-smaller) where
   target-is = c .before .gain-range2 .ensures ∙ ap (min (gains Target)) cap-is
 
   gains-are : c .smaller .result ≡ min (gains State + gains Target) cap
-  gains-are = c .smaller .ensures ∙ (cc (state-is, target-is, cap-is)) ∙ capped-add (gains State) (gains Target) cap
+  gains-are = c .smaller .ensures ∙ same-sum min state-is target-is cap-is ∙ capped-add (gains State) (gains Target) cap
 
   least : cap ≤ 2 ^ 52
   least = omega (arith, cap-is, d .before .before .before .sum-cap .ensures .1)
@@ -78,10 +82,10 @@ part-sum-terms-end : tie.Need-part-sum-terms-end
 part-sum-terms-end c = search needs
 
 sum-terms-requires : tie.Need-sum-terms-requires
-unfolding termRow termCount TermRoom
+unfolding termRow termCount
 sum-terms-requires c κs =
     let a = c .before .before .before .before .before .before in
-    ((record { whole = a .pre .0 .0; index = a .pre .1; part = rest-from (a .args .image .now) _ _ (c .before .cost-offset .ensures .0); room = a .pre .0 .1 }, refl), c .before .before .sum-cap .ensures .1)
+    ((record { ready = a .pre .0; index = a .pre .1; part = rest-from (a .args .image .now) _ _ (c .before .cost-offset .ensures .0) }, refl), c .before .before .sum-cap .ensures .1)
 
 gain-range-requires : tie.Need-gain-range-requires
 gain-range-requires c κs = search needs
@@ -118,9 +122,6 @@ add-result c =
       );
     }
 
-same-test : {a b t x y u : ℕ} → a ≡ x → b ≡ y → t ≡ u → leb (a + b) t ≡ leb (x + y) u
-same-test p q r = rw (p, q, r) refl
-
 returns : tie.Need-returns
 unfolding rowTest
 returns c =
@@ -130,7 +131,7 @@ returns c =
     let x : c .before .ceil-div .result ≡ ceil (min (range e) (cap e)) f = c .before .ceil-div .ensures ∙ ap (λ (k : ℕ). ceil k f) (range-is e) in
     let y : c .ceil-div2 .result ≡ ceil (min (gains e State + gains e Target) (cap e)) f = c .ceil-div2 .ensures ∙ ap (λ (k : ℕ). ceil k f) (gains-are e) in
     rw (range-terms (s .z) (s .image .now) (s .i), gain-terms (s .z) (s .image .now) (s .i))
-    (same-test x y (d e .before .before .before .before .top-word .ensures .0) ∙ capped-row f (top (s .z .w)) (range e) (gains e State + gains e Target) (pow-pos (s .z .b)))
+    (same-sum leb x y (d e .before .before .before .before .top-word .ensures .0) ∙ capped-row f (top (s .z .w)) (range e) (gains e State + gains e Target) (pow-pos (s .z .b)))
 
 pub row-passes-spec : {M : Type 1} → statement M
 row-passes-spec =

@@ -10,10 +10,10 @@ use Rattle.row_sums.proofs.sum_terms.Statement.{statement}
 use Rattle.row_sums.proofs.sum_terms.Tie as tie
 
 abbrev Inv-loop : tie.InvT-loop
-Inv-loop image row z t i count cap s₀ j₀ s j = (j ≤ count) × (s ≡ min (sumN (termAt t z image i) j) cap)
+Inv-loop image row y z t i count cap s₀ j₀ s j = (j ≤ count) × (s ≡ min (sumN (termAt t z image i) j) cap)
 
 abbrev μ-loop : tie.MeasureT-loop
-μ-loop image row z t i count cap s₀ j₀ s j = count - j
+μ-loop image row y z t i count cap s₀ j₀ s j = count - j
 
 -- a turn
 module _ (c : tie.After-term-at Inv-loop μ-loop) where
@@ -21,7 +21,7 @@ module _ (c : tie.After-term-at Inv-loop μ-loop) where
   a = c .before .before .before .before .before
 
   few : c .before .before .loop .j < 16
-  few = omega (arith, count-most (a .args .t) (a .args .z) (a .pre .0 .0 .whole .sizes))
+  few = omega (arith, count-most (a .args .t) (a .args .z) (a .pre .0 .0 .ready .whole .sizes))
 
 loop-holds : tie.Need-loop-holds Inv-loop μ-loop
 loop-holds c = (omega arith, omega arith)

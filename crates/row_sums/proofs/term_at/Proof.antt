@@ -3,12 +3,13 @@ use native.Mathlib.Omega.{arith}
 use mathlib.Core.Path.{_≡_, ap, _∙_}
 use mathlib.Core.List.{List}
 use Prim.Native.Nat.{ℕ, _+_, _*_, _≤_, _<_}
-use lib.ListN.{length}
+use lib.ListN.{length, getD}
 use lib.Signed.{natAbs-le}
 use Rattle.integer.proofs.Machine.{back}
 use Rattle.word.specs.Word.{wordAt}
-use Rattle.image.specs.Layout.{entryOf, entryAt, gainAt}
-use Rattle.row_sums.specs.Terms.{termAt, termRow, termCount, TermRoom, TermsReady}
+use Rattle.gradient.specs.Bounds.{rangeY}
+use Rattle.image.specs.Layout.{entryOf, entryAt, gainAt, commandAt, problemAt}
+use Rattle.row_sums.specs.Terms.{termAt, termRow, termCount, TermsReady}
 use Rattle.row_sums.specs.declared.Term.{Term}
 use Rattle.row_sums.specs.declared.Term.the-variants.{Range, GainRange}
 use Rattle.row_sums.proofs.Rows.{term-end, point-most}
@@ -18,11 +19,11 @@ use Rattle.row_sums.proofs.term_at.Tie as tie
 
 -- the row has term j
 long : (a : tie.Start) → 4 * a .args .j + 4 ≤ length (a .args .row .now)
-long a = term-end (a .args .t) (a .args .z) (a .args .image .now) (a .args .row .now) (a .args .i) (a .args .j) (a .pre .0) (a .pre .1)
+long a = term-end (a .args .t) (a .args .z) (a .args .image .now) (a .args .row .now) (a .args .y .now) (a .args .i) (a .args .j) (a .pre .0) (a .pre .1)
 
 -- what is required, of a term and in an arm
 abbrev Ready : Term → tie.Start → Type 0
-Ready t a = TermsReady t (a .args .z) (a .args .image .now) (a .args .row .now) (a .args .i) × (a .args .j < termCount t (a .args .z))
+Ready t a = TermsReady t (a .args .z) (a .args .image .now) (a .args .row .now) (a .args .y .now) (a .args .i) × (a .args .j < termCount t (a .args .z))
 
 range-ready : (c : tie.After-enum-told) → Ready Range (c .before .before .before .before)
 range-ready c = rw (c .enum-told .given .1) at (c .before .before .before .before .pre)
@@ -36,20 +37,32 @@ enum-told c = search needs
 entry-requires : tie.Need-entry-requires
 entry-requires c κs = (omega arith, long (c .before .before .before .before))
 
-range-y-requires : tie.Need-range-y-requires
+-- the row of M has as many entries as y
+few : (c : tie.After-enum-told) → c .before .before .before .before .args .j < 16
 unfolding termCount
-range-y-requires c κs = let r = range-ready (c .before) in (r .0 .whole, r .1)
+few c = let r = range-ready c in omega (arith, r .1, r .0 .ready .whole .sizes .n-high)
+
+mul-scaled : tie.Need-mul-scaled
+mul-scaled c = omega (arith, few (c .before))
+
+element-copy-out-scaled : tie.Need-element-copy-out-scaled
+element-copy-out-scaled c = few (c .before)
+
+-- Y
+range-is : (c : tie.After-enum-told) → let a = c .before .before .before .before .args in getD (a .y .now) (a .j) 0 ≡ rangeY (problemAt (a .z) (a .image .now)) (commandAt (a .z) (a .image .now) (a .j))
+unfolding termCount
+range-is c = let r = range-ready c in r .0 .ready .ranges .each _ (r .1)
 
 scaled-requires : tie.Need-scaled-requires
-unfolding TermRoom termCount
+unfolding termCount
 scaled-requires c κs =
-    let d = c .before in
-    let a = d .before .before .before .before .before in
-    let x = d .entry in
-    let r = range-ready (d .before) in
+    let d = c .before .before in
+    let a = d .before .before .before .before in
+    let x = c .before .entry in
+    let r = range-ready d in
     rw (back (x .result) (x .ok)) (record {
       factor = x .ensures .1;
-      most = rw (c .range-y .ensures) (point-most (a .args .z) (a .args .image .now) (a .args .j) (r .0 .whole .sizes) (r .0 .room) (r .1));
+      most = rw (range-is d) (point-most (a .args .z) (a .args .image .now) (a .args .j) (r .0 .ready .whole .sizes) (r .0 .ready .points) (r .1));
     })
 
 enum-known-t : tie.Need-enum-known-t
@@ -59,7 +72,7 @@ bound-at-requires : tie.Need-bound-at-requires
 unfolding termCount
 bound-at-requires c κs =
     let r = gain-ready c in
-    (r .0 .whole, r .1)
+    (r .0 .ready .whole, r .1)
 
 size-requires : tie.Need-size-requires
 size-requires c κs = search needs
@@ -86,7 +99,7 @@ returns c =
     let x = c .before .before .entry in
     let e : x .result ≡ entryAt (a .z) (a .image .now) (a .i) (a .j) = x .ensures .0 ∙ ap (λ (l : List ℕ). entryOf (a .z .b) l (a .i) (a .j)) (range-ready d .0 .part) in
     let q = rw (back (x .result) (x .ok)) at (c .scaled .ensures .0) in
-    rw (d .enum-told .given .1) (cc (q, e, c .before .range-y .ensures), c .scaled .ensures .1)
+    rw (d .enum-told .given .1) (cc (q, e, range-is d), c .scaled .ensures .1)
 
 returns-2 : tie.Need-returns-2
 unfolding termAt termRow
@@ -106,7 +119,8 @@ term-at-spec =
     (tie.spec
     enum-told
     entry-requires
-    range-y-requires
+    mul-scaled
+    element-copy-out-scaled
     scaled-requires
     enum-known-t
     bound-at-requires

@@ -1,6 +1,6 @@
 -- `row_tests::row_test` meets its contract. Assumes nothing.
 use Rattle.integer.proofs.Machine.{back}
-use Rattle.row_tests.specs.Tests.{testAt, TestRoom}
+use Rattle.row_tests.specs.Tests.{testAt}
 use native.Mathlib.Omega.{arith}
 use borrow.Author.Needs.{needs}
 use Rattle.row_tests.proofs.row_test.Statement.{statement}
@@ -21,7 +21,7 @@ enum-told-2 c = search needs
 is-inside-requires : tie.Need-is-inside-requires
 is-inside-requires c κs =
     let a = c .before .before .before in
-    (a .pre .0 .whole, omega (arith, a .pre .1))
+    (a .pre .0, omega (arith, a .pre .1))
 
 enum-told-3 : tie.Need-enum-told-3
 enum-told-3 c = search needs
@@ -34,16 +34,6 @@ enum-told-4 c = search needs
 
 point-passes-requires : tie.Need-point-passes-requires
 point-passes-requires c κs = search needs
-
-enum-told-5 : tie.Need-enum-told-5
-enum-told-5 c = search needs
-
-row-passes-requires : tie.Need-row-passes-requires
-unfolding TestRoom
-row-passes-requires c κs =
-    let a = c .before .before .before in
-    let r = rw (c .enum-told5 .given .1) at (a .pre .0) in
-    ((r .whole, r .room), a .pre .1)
 
 returns : tie.Need-returns
 unfolding testAt
@@ -64,10 +54,6 @@ returns-4 : tie.Need-returns-4
 unfolding testAt
 returns-4 c = rw (c .before .enum-told4 .given .1) (c .point-passes .ensures)
 
-returns-5 : tie.Need-returns-5
-unfolding testAt
-returns-5 c = rw (c .before .enum-told5 .given .1) (c .row-passes .ensures)
-
 pub row-test-spec : {M : Type 1} → statement M
 row-test-spec =
     tie.close
@@ -81,10 +67,7 @@ row-test-spec =
     is-symmetric-requires
     enum-told-4
     point-passes-requires
-    enum-told-5
-    row-passes-requires
     returns
     returns-2
     returns-3
-    returns-4
-    returns-5)
+    returns-4)

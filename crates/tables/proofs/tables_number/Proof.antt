@@ -17,7 +17,7 @@ use Rattle.image.specs.Order.{firstFault}
 use Rattle.image.specs.Sizes.{commandCount}
 use Rattle.interface.specs.Tables.{orderTest, stopTest, symmetryTest, marginTest, totalTest, momentumRange, momentumRatio, pointTest, tableChecks, tablesNumber}
 use Rattle.interface.proofs.Extremes.{margins-least, totals-largest}
-use Rattle.row_tests.specs.Tests.{testAt, TestRoom}
+use Rattle.row_tests.specs.Tests.{testAt}
 use borrow.Author.Needs.{needs}
 use Rattle.tables.proofs.tables_number.Statement.{statement}
 use Rattle.tables.proofs.tables_number.Tie as tie
@@ -140,24 +140,21 @@ behind8 : (c : tie.Else8) → Behind 8 (at8 c)
 behind8 c = behind7 (c .before .before) ∙ rw (points c) refl
 
 rows-pass-requires : tie.Need-rows-pass-requires
-unfolding TestRoom
-rows-pass-requires c κs = record { whole = c .before .pre; room = tt }
+rows-pass-requires c κs = c .before .pre
 
 returns : tie.Need-returns
 unfolding tablesNumber testAt
 returns c = rw (sym (c .before .rows-pass .ensures) ∙ not-true _ (c .if1 .taken))
 
 rows-pass-requires-2 : tie.Need-rows-pass-requires-2
-unfolding TestRoom
-rows-pass-requires-2 c κs = record { whole = at1 c .pre; room = tt }
+rows-pass-requires-2 c κs = at1 c .pre
 
 returns-2 : tie.Need-returns-2
 unfolding testAt
 returns-2 c = sym (behind1 (c .before .before) ∙ rw (sym (c .before .rows-pass2 .ensures) ∙ not-true _ (c .if2 .taken)) refl)
 
 rows-pass-requires-3 : tie.Need-rows-pass-requires-3
-unfolding TestRoom
-rows-pass-requires-3 c κs = record { whole = at2 c .pre; room = tt }
+rows-pass-requires-3 c κs = at2 c .pre
 
 returns-3 : tie.Need-returns-3
 unfolding testAt
@@ -192,24 +189,20 @@ returns-7 : tie.Need-returns-7
 returns-7 c = sym (behind6 (c .before .before) ∙ rw (sym (c .before .momentum-passes .ensures) ∙ not-true _ (c .if7 .taken)) refl)
 
 rows-pass-requires-4 : tie.Need-rows-pass-requires-4
-unfolding TestRoom
-rows-pass-requires-4 c κs = record { whole = at7 c .pre; room = tt }
+rows-pass-requires-4 c κs = at7 c .pre
 
 returns-8 : tie.Need-returns-8
 unfolding testAt
 returns-8 c = sym (behind7 (c .before .before) ∙ rw (sym (c .before .rows-pass4 .ensures) ∙ not-true _ (c .if8 .taken)) refl)
 
-rows-pass-requires-5 : tie.Need-rows-pass-requires-5
-unfolding TestRoom
-rows-pass-requires-5 c κs = record { whole = at8 c .pre; room = points c }
+sums-pass-requires : tie.Need-sums-pass-requires
+sums-pass-requires c κs = (at8 c .pre, points c)
 
 returns-9 : tie.Need-returns-9
-unfolding testAt
-returns-9 c = sym (behind8 (c .before .before) ∙ rw (sym (c .before .rows-pass5 .ensures) ∙ c .if9 .taken) refl)
+returns-9 c = sym (behind8 (c .before .before) ∙ rw (sym (c .before .sums-pass .ensures) ∙ c .if9 .taken) refl)
 
 returns-10 : tie.Need-returns-10
-unfolding testAt
-returns-10 c = sym (behind8 (c .before .before) ∙ rw (sym (c .before .rows-pass5 .ensures) ∙ c .if9 .left) refl)
+returns-10 c = sym (behind8 (c .before .before) ∙ rw (sym (c .before .sums-pass .ensures) ∙ c .if9 .left) refl)
 
 pub tables-number-spec : {M : Type 1} → statement M
 tables-number-spec =
@@ -231,6 +224,6 @@ tables-number-spec =
     returns-7
     rows-pass-requires-4
     returns-8
-    rows-pass-requires-5
+    sums-pass-requires
     returns-9
     returns-10)
