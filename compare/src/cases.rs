@@ -1,11 +1,14 @@
 //! Document 01's cases at the edges as one table, the starred ones among them, and a few of our own behind them: edges
-//! that it implies, and those of requests 1 to 7. The figures of ours are worked out by hand from the papers.
+//! that it implies, and those of requests 1 to 7. The figures of ours are worked out by hand from the papers. Solves that
+//! come to rest are a table of their own.
 
 mod nearest;
+mod rest;
 mod stop;
 mod sums;
 
 pub use nearest::with_ties;
+pub use rest::{Rest, rests, table as at_rest};
 
 use crate::double::of_count;
 use crate::draft::{Draft, keep_former, text};
@@ -998,9 +1001,20 @@ pub fn run(harness: &mut Harness, case: &Case) {
     harness.check(holds && page_holds, || format!("  the table's case: {}", case.name));
 }
 
+/// The solve alone of a case that has its image.
+pub fn run_solve(harness: &mut Harness, case: &Case) {
+    let image = case.image.as_ref().expect("the case has its image");
+    let commands = words(image)[..2].iter().product::<i64>() as usize;
+    lent_solve(harness, image, case, commands);
+}
+
 fn solve(harness: &mut Harness, image: &[u8], case: &Case) -> Outcome {
     let commands = words(image)[..2].iter().product::<i64>() as usize;
     cold_start(harness, image, 4 * commands);
+    lent_solve(harness, image, case, commands)
+}
+
+fn lent_solve(harness: &mut Harness, image: &[u8], case: &Case, commands: usize) -> Outcome {
     let start = case.start.clone().unwrap_or(vec![0; 4 * commands]);
     let lent: [&[u8]; 4] = [image, &case.state, &case.target, &start];
     harness.compare(&Call::on_buffers(Kind::Solve, &lent, 8 * commands + case.spare))

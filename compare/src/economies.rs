@@ -1,8 +1,9 @@
-//! The false economies and lazy drives of document 01, and those of requests 1 to 7. Each must be found on the table of
-//! cases: a comparison that cannot fail is worthless.
+//! The false economies and lazy drives of document 01, those of requests 1 to 7, and those that end a solve too early.
+//! Each must be found on the table of cases: a comparison that cannot fail is worthless.
 
 mod loops;
 mod nearest;
+mod rest;
 mod stop;
 mod sums;
 
@@ -24,6 +25,8 @@ struct Economy {
     name: String,
     rules: Rules,
     spoil: Spoil,
+    /// Is it to be found on the solves that come to rest, and not on the other cases?
+    at_rest: bool,
 }
 
 impl Drive for Economy {
@@ -34,7 +37,7 @@ impl Drive for Economy {
 }
 
 fn rule(name: &str, rules: Rules) -> Economy {
-    Economy { name: name.to_string(), rules, spoil: Box::new(|_, _, number, _| number) }
+    Economy { name: name.to_string(), rules, spoil: Box::new(|_, _, number, _| number), at_rest: false }
 }
 
 /// A drive that takes other words for the doubles of some kinds.
@@ -51,7 +54,7 @@ fn up(double: u64, sizes: &Sizes) -> Option<i64> {
 }
 
 fn lazy(name: &str, spoil: impl Fn(Kind, &[&[u8]], Number, &mut [u8]) -> Number + 'static) -> Economy {
-    Economy { name: name.to_string(), rules: Rules::default(), spoil: Box::new(spoil) }
+    Economy { name: name.to_string(), rules: Rules::default(), spoil: Box::new(spoil), at_rest: false }
 }
 
 /// A drive that answers on its own where a solve has one of these numbers.
@@ -110,6 +113,7 @@ fn economies() -> Vec<Economy> {
     economies.extend(nearest::economies());
     economies.extend(on_pages());
     economies.extend(without_pages());
+    economies.extend(rest::economies());
     economies
 }
 
@@ -524,10 +528,28 @@ pub fn count() -> u64 {
     economies().len() as u64
 }
 
-pub fn run(harness: &mut Harness, index: u64, table: &[Case]) {
+pub fn run(harness: &mut Harness, index: u64, table: &[Case], at_rest: &[Case]) {
     let economy = &economies()[index as usize];
+    let differences = differences(economy, table, at_rest);
+    println!("a drive that {}: {differences} differences", economy.name);
+    harness.check(differences > 0, || format!("  a drive that {} is not found", economy.name));
+}
+
+/// Drives that end their loops where they may are not to be found.
+pub fn right_ends_agree(harness: &mut Harness) {
+    let at_rest = cases::at_rest();
+    for economy in rest::right() {
+        let differences = differences(&economy, &[], &at_rest);
+        harness.check(differences == 0, || format!("  a drive that {} is found: {differences}", economy.name));
+    }
+}
+
+fn differences(economy: &Economy, table: &[Case], at_rest: &[Case]) -> u64 {
     let mut scratch = Harness::quiet(economy);
-    table.iter().for_each(|case| cases::run(&mut scratch, case));
-    println!("a drive that {}: {} differences", economy.name, scratch.failed);
-    harness.check(scratch.failed > 0, || format!("  a drive that {} is not found", economy.name));
+    if economy.at_rest {
+        at_rest.iter().for_each(|case| cases::run_solve(&mut scratch, case));
+    } else {
+        table.iter().for_each(|case| cases::run(&mut scratch, case));
+    }
+    scratch.failed
 }

@@ -93,8 +93,8 @@ pub struct Harness<'a> {
     pub inputs: BTreeSet<(i64, i64)>,
     /// The nu and N of those whose limits change from step to step.
     pub changing: BTreeSet<(i64, i64)>,
-    /// How often a random solve lay at an edge of check 12 or 17, or was another than before request 4 or 6, and a random
-    /// sheet another than before request 7.
+    /// How often a random solve lay at an edge of check 12 or 17, came to rest in some way, or was another than before
+    /// request 4 or 6, and a random sheet another than before request 7.
     pub edges: BTreeMap<&'static str, u64>,
     /// What became of the numbers of tables in random sheets.
     pub tables: BTreeSet<TableEdge>,

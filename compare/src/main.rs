@@ -16,6 +16,7 @@ mod label;
 mod page;
 mod process;
 mod random;
+mod rest;
 mod rules;
 mod sheet;
 mod solve;
@@ -36,8 +37,8 @@ compare --label and compare --page act as the label and the page program in the 
 const COUNT: u64 = 100_000;
 const LONG_COUNT: u64 = 20 * COUNT;
 /// From this count on a run has to have met every number of every call, every size, every nr with every n and with every
-/// nx, limits that change along every N, every edge of checks 12 and 17, every way to round a table, and all that requests
-/// 4, 6 and 7 change.
+/// nx, limits that change along every N, every edge of checks 12 and 17, every way to round a table, every way to come to
+/// rest, and all that requests 4, 6 and 7 change.
 const COVERING_COUNT: u64 = 20_000;
 
 struct Options {
@@ -171,7 +172,7 @@ fn require_cover(harness: &mut Harness) {
     }
     require_problems(harness);
     let stopped = trials::STOPPED.into_iter().map(|(_, edge)| edge);
-    for edge in edges::all().chain(trials::CHANGES).chain(stopped) {
+    for edge in edges::all().chain(trials::CHANGES).chain(stopped).chain(rest::EDGES) {
         let met = harness.edges.get(edge).copied().unwrap_or(0);
         println!("random solves, {edge}: {met}");
         harness.check(met > 0, || format!("  no random solve: {edge}"));

@@ -77,7 +77,7 @@ pub struct ErrorBound<'a> {
     pub e: Vec<i64>,
     previous: Vec<i64>,
     /// q.
-    point: Vec<i64>,
+    pub point: Vec<i64>,
 }
 
 impl<'a> ErrorBound<'a> {

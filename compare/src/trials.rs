@@ -6,7 +6,7 @@ use std::path::Path;
 use std::rc::Rc;
 
 use crate::big::Big;
-use crate::cases;
+use crate::cases::{self, Rest};
 use crate::double::{self, Rounding};
 use crate::draft::Draft;
 use crate::drive::{Call, Kind, Outcome};
@@ -21,6 +21,7 @@ use crate::label;
 use crate::page::{self, PAGE_LINE};
 use crate::process::Program;
 use crate::random::Random;
+use crate::rest::{self, Courses, MOST_SWEEPS};
 use crate::rules::{Rules, Use};
 use crate::sheet::{self, LINE, MOST_LINES, hex, number_of, unhex};
 use crate::solve::{ErrorBound, Exact, Rounded};
@@ -40,19 +41,21 @@ pub fn run(harness: &mut Harness, group: &Group, index: u64) {
 
 pub fn groups(count: u64, has_conversions: bool, work: &Path) -> Vec<Group> {
     let group = |name, count, trial: fn(&mut Harness, u64, &mut Random)| Group { name, count, trial: Box::new(trial) };
-    let table = Rc::new(cases::table());
-    let lent = table.clone();
+    let (table, at_rest) = (Rc::new(cases::table()), Rc::new(cases::at_rest()));
+    let (lent, lent_at_rest) = (table.clone(), at_rest.clone());
     let mut groups = vec![
         group("itself", 1, itself),
         Group {
             name: "cases",
-            count: table.len() as u64,
-            trial: Box::new(move |harness, index, _| cases::run(harness, &table[index as usize])),
+            count: (table.len() + at_rest.len()) as u64,
+            trial: Box::new(move |harness, index, _| {
+                cases::run(harness, table.iter().chain(&*at_rest).nth(index as usize).expect("the index is of a case"))
+            }),
         },
         Group {
             name: "economies",
             count: economies::count(),
-            trial: Box::new(move |harness, index, _| economies::run(harness, index, &lent)),
+            trial: Box::new(move |harness, index, _| economies::run(harness, index, &lent, &lent_at_rest)),
         },
         group("damage", damaged_bytes(), damage),
         group("solve", count, solve),
@@ -60,6 +63,7 @@ pub fn groups(count: u64, has_conversions: bool, work: &Path) -> Vec<Group> {
         group("intake", count, intake),
         group("page", count / 4, page),
         group("demand3", count / 25, demand3),
+        group("rest", count / 100, rest),
         group("former", count / 50, former),
     ];
     if has_conversions {
@@ -264,6 +268,35 @@ fn demand3(harness: &mut Harness, index: u64, random: &mut Random) {
             harness.check(outcome.written == prefix, || format!("  no prefix: {iteration} sweeps"));
         }
     }
+}
+
+/// Sweeps about the moments at which commands and bounds come to rest: from the start that is drawn, from where that
+/// solve ends, and with one command of that moved.
+fn rest(harness: &mut Harness, _: u64, random: &mut Random) {
+    let case = generate::solve_case(random, &Plan::nothing());
+    let end = about_rest(harness, &case, &words(&case.start));
+    about_rest(harness, &case, &end);
+    let (problem, k) = (case.draft.problem(), random.below(end.len()));
+    let mut moved = end;
+    moved[k] = random.pick(&[moved[k] - 1, moved[k] + 1, 0]).clamp(problem.lower[k], problem.upper[k]);
+    about_rest(harness, &case, &moved);
+}
+
+/// Returns the commands after the most sweeps.
+fn about_rest(harness: &mut Harness, case: &SolveCase, start: &[i64]) -> Vec<i64> {
+    let SolveCase { draft, state, target, .. } = case;
+    let courses = Courses::new(&draft.problem(), &[words(state), words(target)].concat(), start);
+    harness.check(courses.stay(), || format!("  what was at rest moves again: {:?}", draft.body));
+    courses.edges().for_each(|edge| harness.meet_edge(edge));
+    for sweeps in rest::about(courses.moments()) {
+        let image = draft.clone().iterations(sweeps).image();
+        let call = Call::on_buffers(Kind::Solve, &[&image, state, target, &bytes(start)], 8 * start.len());
+        let written = harness.compare(&call).written;
+        let answer = Some(bytes(&courses.answer(sweeps)));
+        harness.check(written == answer, || format!("  another answer than after {sweeps} of more sweeps"));
+    }
+    let [commands, _] = &courses.commands[MOST_SWEEPS];
+    commands.clone()
 }
 
 /// By request 6 zero is within the limits; so w is not below zb, and Y not below P.
@@ -697,6 +730,8 @@ fn itself(harness: &mut Harness, _: u64, random: &mut Random) {
     former_agrees(harness);
     without_stop_agrees(harness);
     without_nearest_agrees(harness);
+    rests_agree(harness);
+    economies::right_ends_agree(harness);
     let mut lent = Lent::new(&[1, 2, 3]);
     harness.check(lent.guards_hold(), || "  a guard does not hold by itself".to_string());
     lent.write_beside();
@@ -712,6 +747,16 @@ fn running_sums_agree(harness: &mut Harness) {
     let in_range = |terms: &&[i128]| sums_in_range(terms.iter().copied());
     let holds = within.iter().all(in_range) && !beyond.iter().any(in_range);
     harness.check(holds, || "  the test of running sums does not tell them apart".to_string());
+}
+
+/// The cases that come to rest do so at the sweep that their table says, and then stay there.
+fn rests_agree(harness: &mut Harness) {
+    for Rest { name, draft, state, start, moments, last, .. } in cases::rests() {
+        let courses = Courses::new(&draft.problem(), &state, &start);
+        let (found, answer) = (courses.moments(), courses.answer(MOST_SWEEPS));
+        let holds = found == moments && answer == last && courses.stay();
+        harness.check(holds, || format!("  {name}: at rest in {found:?}, and at last {answer:?}"));
+    }
 }
 
 /// The drive without request 4 on coupled steps: −8 + 0 − 10 for −7.5 and 0.75, and c 2. Y is 3 and 2, and the terms of

@@ -37,7 +37,7 @@ pub fn resized(draft: Draft, bits: u32, width: u32) -> Draft {
 
 /// Steps at b 5, each with a part in all others: M is 16 and beside it 1. With sixteen the rows come to 31 / 32, and 11
 /// is met from β 23 on.
-fn all_coupled(steps: usize) -> Draft {
+pub fn all_coupled(steps: usize) -> Draft {
     let sizes = Sizes { steps, bits: 5, ..sample().sizes };
     let cost: Vec<i64> = (0..steps * steps).map(|i| if i % (steps + 1) == 0 { 16 } else { -1 }).collect();
     uncoupled(sizes).with(COST, &cost).with(MOMENTUM, &[24])

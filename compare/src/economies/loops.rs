@@ -5,7 +5,7 @@ use super::{Economy, rule};
 use crate::rules::{Row, Rules, Terms, Times};
 
 /// A sum of fewer than four terms keeps its rest: a drive that loses that too is found all the sooner.
-const MISTAKES: [(&str, Times); 7] = [
+pub const MISTAKES: [(&str, Times); 7] = [
     ("leaves out the last term", |i, count| i128::from(i + 1 < count)),
     ("starts at term 1", |i, _| i128::from(i > 0)),
     ("adds the first term twice", |i, _| 1 + i128::from(i == 0)),
