@@ -26,7 +26,7 @@ pub fn blank_table() -> [[i64; 16]; 16]
     [[0; 16]; 16]
 }
 
-pub fn blank_sizes() -> [[u64; 16]; 16]
+pub fn blank_magnitudes() -> [[u64; 16]; 16]
     ensures { λ r. ⌜ length r ≡ 16 ⌝ }
 {
     [[0; 16]; 16]

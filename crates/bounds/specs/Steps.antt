@@ -12,7 +12,7 @@ use Rattle.bounds.specs.declared.BoundTerms.{BoundTerms}
 
 -- "new e of a row is the smaller of w and (sum of |M| × q) / 2^b + c"
 unfoldable pub eAt : List (List ℕ) → BoundTerms → List ℕ → ℕ → ℕ
-eAt sizes t q i = min (getD (t .width) i 0) (ceil (weightTo (getD sizes i []) q (t .n)) (2 ^ t .b) + slack)
+eAt magnitudes t q i = min (getD (t .width) i 0) (ceil (weightTo (getD magnitudes i []) q (t .n)) (2 ^ t .b) + slack)
 
 -- "q = e + β × (e + previous e) / 2^b + 1"
 unfoldable pub qAt : BoundTerms → List ℕ → List ℕ → ℕ → ℕ
@@ -28,9 +28,9 @@ pub record Fitting (t : BoundTerms) : Type 0 where
 
 -- of each row's sum of |M| × q
 abbrev pub WeightsTo : ℕ → List (List ℕ) → List ℕ → Type 0
-WeightsTo n sizes q = (i : ℕ) → i < n → Weighable (getD sizes i []) q n
+WeightsTo n magnitudes q = (i : ℕ) → i < n → Weighable (getD magnitudes i []) q n
 
--- ---- what it leaves: the new bounds and those of y in place of e and q, and whether these are as they were
+-- ---- what it leaves: the new bounds and those of y in place of e and q; where settled is true, these are as they were
 pub record Stored (t : BoundTerms) (new e q e′ q′ : List ℕ) (settled : Bool) : Type 0 where
   pub new-e : Filled 0 (t .n) (λ (i : ℕ). getD new i 0) e′
   pub new-q : Filled 0 (t .n) (qAt t new e) q′

@@ -41,7 +41,7 @@ pub record Fitting (t : CommandTerms) : Type 0 where
 abbrev pub SumsTo : ℕ → List (List ℤ) → List ℤ → Type 0
 SumsTo n m y = (i : ℕ) → i < n → RunsTo n (productAt (getD m i []) y)
 
--- ---- what it leaves: the new commands and the new y in place of z and y, and whether these are as they were
+-- ---- what it leaves: the new commands and the new y in place of z and y; where settled is true, these are as they were
 pub record Stored (t : CommandTerms) (new z y z′ y′ : List ℤ) (settled : Bool) : Type 0 where
   pub new-z : Filled (pos 0) (t .n) (λ (i : ℕ). getD new i (pos 0)) z′
   pub new-y : Filled (pos 0) (t .n) (yAt t new z) y′

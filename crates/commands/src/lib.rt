@@ -1,4 +1,4 @@
-// One iteration of the commands, in place: the new ones from the rows of M, then the new y, and whether anything changed.
+// One iteration of the commands, in place: the new ones from the rows of M, then the new y, and a flag where nothing changed.
 ghost use mathlib.Core.Path.{_≡_};
 ghost use mathlib.Core.Bool.{true};
 ghost use Prim.Native.Nat.{_^_, _≤_, _<_};
@@ -41,7 +41,7 @@ fn point(new: i64, old: i64, momentum: u64, b: u32) -> i64
     integer::floor_div((f + beta) * new, b) - integer::floor_div(beta * old, b)
 }
 
-// Whether a number is as it was, and those before it were.
+// True only where a number is as it was, and those before it were.
 fn stays(before: bool, new: i64, old: i64) -> bool
     ensures { λ r. ⌜ (r ≡ true → (before ≡ true) × (new ≡ old)) ⌝ }
 {
@@ -51,7 +51,7 @@ fn stays(before: bool, new: i64, old: i64) -> bool
     before
 }
 
-// The new commands in place of the old ones, and the new y. Whether nothing changed by that.
+// The new commands in place of the old ones, and the new y. True only where nothing changed by that; false says nothing, and costs time alone.
 pub fn store(t: CommandTerms, new: &[i64; 16], z: &mut [i64; 16], y: &mut [i64; 16]) -> bool
     requires { ⌜ (Fitting t × WordsTo (t .n) (now new)) × ((WordsTo (t .n) (now z) × (length (now z) ≡ 16)) × (WordsTo (t .n) (now y) × (length (now y) ≡ 16))) ⌝ }
     ensures { λ r. ⌜ Stored t (now (new .entry)) (now (z .entry)) (now (y .entry)) (now (z .exit)) (now (y .exit)) r ⌝ }

@@ -1,4 +1,4 @@
-// Checks 8 to 10 of a row of H: its symmetry, its margin and its total.
+// Check 8 of a row of H, its symmetry, and what 9 to 11 take of it: its margin and its total.
 ghost use mathlib.Core.Path.{_≡_};
 ghost use mathlib.Core.Bool.{cond};
 ghost use Prim.Native.Nat.{_^_, _≤_, _<_};

@@ -26,7 +26,7 @@ fn rest(r: &[i64; 16], y: &[i64; 16], a: usize, n: usize) -> i64
     x
 }
 
-// The sum of n terms from a on, four a turn and then the rest: of a loop of one product a turn the compiler makes slow vector code.
+// The sum of n terms from a on, four a turn and then the rest: of a loop of one signed product of 64 bits a turn the compiler makes slow vector code.
 pub fn dot(r: &[i64; 16], y: &[i64; 16], a: usize, n: usize) -> i64
     requires { ⌜ Summable (now r) (now y) (a + n) ⌝ }
     ensures { λ x. ⌜ x ≡ sumZ (productAt (now (r .entry)) (now (y .entry))) a n ⌝ }

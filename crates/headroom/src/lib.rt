@@ -41,7 +41,7 @@ fn sum_cap(z: Sizes) -> u64
     f * top_word(z) + 1
 }
 
-// What an input adds to the sum of B of row i, capped.
+// What an input adds to the sum of B of row i, capped. y is for the terms of A alone, which the same loop sums.
 fn gain_range(image: &[u8], y: &[u64; 16], z: Sizes, v: Input, i: usize, cap: u64) -> u64
     requires { ⌜ (RangesReady z (now image) (now y) × (i < commandCount z)) × (cap ≤ 2 ^ 52) ⌝ }
     ensures { λ r. ⌜ r ≡ min (sumN (termAt (GainRange v) z (now (image .entry)) i) (inputCount v z)) cap ⌝ }

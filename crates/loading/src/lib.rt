@@ -13,13 +13,13 @@ use commands::CommandTerms;
 use image::Input;
 use image::Sizes;
 
-// The limits of the commands.
+// A low and a high limit for each command.
 pub struct Limits {
     pub lower: [i64; 16],
     pub upper: [i64; 16],
 }
 
-// The limits of each command.
+// The limits of the image's commands.
 fn limits_of(image: &[u8], z: Sizes) -> Limits
     requires { ⌜ Whole z (now image) ⌝ }
     ensures { λ r. ⌜ LimitsOf z (now (image .entry)) r ⌝ }

@@ -40,7 +40,7 @@ pub fn matrix(image: &[u8], z: Sizes) -> [[i64; 16]; 16]
 }
 
 // The magnitudes of a row of M.
-fn size_row(row: &[i64; 16], n: usize) -> [u64; 16]
+fn magnitude_row(row: &[i64; 16], n: usize) -> [u64; 16]
     requires { ⌜ (n ≤ 16) × WordsTo n (now row) ⌝ }
     ensures { λ r. ⌜ Filled 0 n (λ j. natAbs (getD (now (row .entry)) j (pos 0))) r ⌝ }
 {
@@ -53,17 +53,17 @@ fn size_row(row: &[i64; 16], n: usize) -> [u64; 16]
     r
 }
 
-// |M|: taken once, and not anew in each iteration.
-pub fn sizes_of(m: &[[i64; 16]; 16], n: usize) -> [[u64; 16]; 16]
+// |M|, which the error bounds take: made once, and not anew in each iteration.
+pub fn magnitudes_of(m: &[[i64; 16]; 16], n: usize) -> [[u64; 16]; 16]
     requires { ⌜ (n ≤ 16) × RowsTo n (now m) ⌝ }
     ensures { λ r. ⌜ Tabled 0 n (λ i j. natAbs (getD (getD (now (m .entry)) i []) j (pos 0))) r ⌝ }
 {
-    let mut sizes = array::blank_sizes();
+    let mut r = array::blank_magnitudes();
     let mut i = 0;
     while i < n {
-        let r = size_row(&m[i], n);
-        sizes[i] = r;
+        let row = magnitude_row(&m[i], n);
+        r[i] = row;
         i += 1;
     }
-    sizes
+    r
 }

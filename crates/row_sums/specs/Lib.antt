@@ -1,2 +1,2 @@
--- The kinds of sum that the checks of the tables share.
+-- The terms of A and B of check 12.
 pub mod Terms

@@ -34,7 +34,7 @@ pub record Scalable (a : ℤ) (x : ℕ) : Type 0 where
   pub factor : natAbs a ≤ 2 ^ 31 + 2 ^ 20
   pub most : x ≤ 2 ^ 31
 
--- every Y is in the word
+-- every P and every Y is in the word
 abbrev pub PointsPass : Sizes → List ℕ → Type 0
 PointsPass z s = allTo (pointTest z s) (commandCount z) ≡ true
 

@@ -29,8 +29,8 @@ use Rattle.loading.proofs.Tables.{nothing, command, HasRows, HasBounds, count-i
 use Rattle.solve.specs.Reached.{BoundsAt, BoundsOf}
 use Rattle.solve.proofs.Commands.{row-words}
 
-module _ {p : Problem} (m : List (List ℤ)) (sizes : List (List ℕ)) {t : BoundTerms} (rows : HasRows p m) (rep : HasBounds p t) (sized : Sized p) (room : T (headroom p))
-    (table : Tabled 0 (t .n) (λ (i j : ℕ). natAbs (getD (getD m i []) j (pos 0))) sizes) where
+module _ {p : Problem} (m : List (List ℤ)) (magnitudes : List (List ℕ)) {t : BoundTerms} (rows : HasRows p m) (rep : HasBounds p t) (sized : Sized p) (room : T (headroom p))
+    (table : Tabled 0 (t .n) (λ (i j : ℕ). natAbs (getD (getD m i []) j (pos 0))) magnitudes) where
   abbrev N : ℕ
   N = length (p .commands)
 
@@ -45,8 +45,8 @@ module _ {p : Problem} (m : List (List ℤ)) (sizes : List (List ℕ)) {t : Boun
     widths = λ i h. let l : i < N = omega (arith, rep .n-is) in rw (rep .widths i l) (width-fits p sized (command p i) (of-command i l));
   }
 
-  size-is : (i : ℕ) → i < N → (j : ℕ) → j < N → getD (getD sizes i []) j 0 ≡ natAbs (getD (command p i .row) j (pos 0))
-  size-is i h j l =
+  magnitude-is : (i : ℕ) → i < N → (j : ℕ) → j < N → getD (getD magnitudes i []) j 0 ≡ natAbs (getD (command p i .row) j (pos 0))
+  magnitude-is i h j l =
       let n = rep .n-is in
       table i (omega arith) .each j (omega arith) ∙ ap natAbs (rows i h j l)
 
@@ -61,17 +61,17 @@ module _ {p : Problem} (m : List (List ℤ)) (sizes : List (List ℕ)) {t : Boun
     q-nats : (i : ℕ) → i < N → getD q i 0 < 2 ^ 32
     q-nats i h = rw (at .at-q .each i h) (q-fits p sized nothing k i h (headroom-at p room nothing i h .fitsY))
 
-    weight-is : (i : ℕ) → i < N → weightTo (getD sizes i []) q (t .n) ≡ weight (command p i .row) (E .q)
+    weight-is : (i : ℕ) → i < N → weightTo (getD magnitudes i []) q (t .n) ≡ weight (command p i .row) (E .q)
     unfolding weightTo
     weight-is i h =
         rw (rep .n-is)
-        (sumN-cong _ _ N (λ j l. rw (size-is i h j l, at .at-q .each j l))
+        (sumN-cong _ _ N (λ j l. rw (magnitude-is i h j l, at .at-q .each j l))
         ∙ sym (weight-sum (command p i .row) (E .q) N (of-command i h .row-length) (error-q-length p k)))
 
     headroom-A : (i : ℕ) → i < N → rangeA p (command p i) ≤ top (p .W)
     headroom-A i h = omega (arith, headroom-at p room nothing i h .fitsAB)
 
-    pub weights : WeightsTo (t .n) sizes q
+    pub weights : WeightsTo (t .n) magnitudes q
     weights i h =
         let a : i < N = omega (arith, rep .n-is) in
         record {
@@ -82,7 +82,7 @@ module _ {p : Problem} (m : List (List ℤ)) (sizes : List (List ℕ)) {t : Boun
         }
 
     -- ---- one more
-    module _ (new e′ q′ : List ℕ) (same : Bool) (made : Filled 0 (t .n) (eAt sizes t q) new) (kept : Stored t new e q e′ q′ same) where
+    module _ (new e′ q′ : List ℕ) (same : Bool) (made : Filled 0 (t .n) (eAt magnitudes t q) new) (kept : Stored t new e q e′ q′ same) where
       new-is : (i : ℕ) → i < N → getD new i 0 ≡ getD (errorAfter p (suc k) .e) i 0
       unfolding errorAfter eAt nextE F
       new-is i h =

@@ -43,13 +43,13 @@ fn bounds_after(image: &[u8], m: [[i64; 16]; 16], count: usize) -> [u64; 16]
 {
     let s = image::sizes_of(image);
     let t = loading::bound_terms(image, s);
-    let sizes = matrix::sizes_of(&m, t.n);
+    let magnitudes = matrix::magnitudes_of(&m, t.n);
     let mut e = array::blank_errors();
     let mut q = array::blank_errors();
     let mut new = array::blank_errors();
     let mut k = 0;
     while k < count {
-        bounds::next_e(&sizes, t, &q, &mut new);
+        bounds::next_e(&magnitudes, t, &q, &mut new);
         if bounds::store(t, &new, &mut e, &mut q) {
             return e;
         }

@@ -13,10 +13,10 @@ use Rattle.bounds.proofs.next_e.Statement.{statement}
 use Rattle.bounds.proofs.next_e.Tie as tie
 
 abbrev Inv-loop : tie.InvT-loop
-Inv-loop sizes q new₀ t n i₀ new i = Filling 0 (λ k x. x ≡ eAt sizes t q k) n i new
+Inv-loop magnitudes q new₀ t n i₀ new i = Filling 0 (λ k x. x ≡ eAt magnitudes t q k) n i new
 
 abbrev μ-loop : tie.MeasureT-loop
-μ-loop sizes q new₀ t n i₀ new i = n - i
+μ-loop magnitudes q new₀ t n i₀ new i = n - i
 
 -- a turn's sum of |M| × q
 module _ (c : tie.After-weight Inv-loop μ-loop) where
@@ -32,7 +32,7 @@ module _ (c : tie.After-weight Inv-loop μ-loop) where
 loop-holds : tie.Need-loop-holds Inv-loop μ-loop
 loop-holds c =
     let a = c .args in
-    none 0 (λ k x. x ≡ eAt (a .sizes .now) (a .t2) (a .q .now) k) (a .t2 .n) (a .new .now) (c .pre .1)
+    none 0 (λ k x. x ≡ eAt (a .magnitudes .now) (a .t2) (a .q .now) k) (a .t2 .n) (a .new .now) (c .pre .1)
 
 mul-weight : tie.Need-mul-weight Inv-loop μ-loop
 mul-weight c = omega arith
@@ -75,7 +75,7 @@ unfolding eAt slack
 loop-again c =
     let d = c .before .before .before in
     let a = start d in
-    more 0 (λ k x. x ≡ eAt (a .args .sizes .now) (a .args .t2) (a .args .q .now) k) _ (a .pre .0 .0 .few) (d .before .before .loop-test .taken) (d .before .before .before .loop .inv)
+    more 0 (λ k x. x ≡ eAt (a .args .magnitudes .now) (a .args .t2) (a .args .q .now) k) _ (a .pre .0 .0 .few) (d .before .before .loop-test .taken) (d .before .before .before .loop .inv)
     (c .smaller .ensures
     ∙ ap (λ (k : ℕ). min (getD (a .args .t2 .width) (i d) 0) (k + slack))
     (c .before .before .ceil-div .ensures ∙ ap (λ (w : ℕ). ceil w (2 ^ a .args .t2 .b)) (d .weight .ensures)))
@@ -83,7 +83,7 @@ loop-again c =
 returns : tie.Need-returns Inv-loop μ-loop
 returns c =
     let a = c .before .before .args in
-    full 0 (eAt (a .sizes .now) (a .t2) (a .q .now)) (c .loop-test .left) (c .before .loop .inv)
+    full 0 (eAt (a .magnitudes .now) (a .t2) (a .q .now)) (c .loop-test .left) (c .before .loop .inv)
 
 pub next-e-spec : {M : Type 1} → statement M
 next-e-spec =

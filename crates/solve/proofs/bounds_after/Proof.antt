@@ -21,10 +21,10 @@ use Rattle.solve.proofs.bounds_after.Statement.{statement}
 use Rattle.solve.proofs.bounds_after.Tie as tie
 
 abbrev Inv-loop : tie.InvT-loop
-Inv-loop image count t sizes e₀ q₀ new₀ k₀ e q new k = (k ≤ count) × (BoundsAt (problemOf image) k e q × (length new ≡ 16))
+Inv-loop image count t magnitudes e₀ q₀ new₀ k₀ e q new k = (k ≤ count) × (BoundsAt (problemOf image) k e q × (length new ≡ 16))
 
 abbrev μ-loop : tie.MeasureT-loop
-μ-loop image count t sizes e₀ q₀ new₀ k₀ e q new k = count - k
+μ-loop image count t magnitudes e₀ q₀ new₀ k₀ e q new k = count - k
 
 -- the sizes are the image's
 module _ (c : tie.After-sizes-of Inv-loop μ-loop) where
@@ -56,7 +56,7 @@ module _ (c : tie.After-store Inv-loop μ-loop) where
   abbrev l : tie.At-loop Inv-loop μ-loop
   l = c .before .before .before .before .before .before .before .before .before
 
-  abbrev z : tie.After-sizes-of2 Inv-loop μ-loop
+  abbrev z : tie.After-magnitudes-of Inv-loop μ-loop
   z = l .before .before .before .before
 
   abbrev t : tie.After-bound-terms Inv-loop μ-loop
@@ -65,13 +65,13 @@ module _ (c : tie.After-store Inv-loop μ-loop) where
   abbrev new : List ℕ
   new = c .before .before .before .before .next-e .last .1 .1 .1 .0
 
-  made : Filled 0 (t .bound-terms .result .n) (eAt (z .sizes-of2 .result) (t .bound-terms .result) (l .loop .q)) new
+  made : Filled 0 (t .bound-terms .result .n) (eAt (z .magnitudes-of .result) (t .bound-terms .result) (l .loop .q)) new
   made = c .before .before .before .before .next-e .ensures
 
   next : BoundsAt (problemOf (image (d t))) (suc (l .loop .k)) (c .store .last .1 .1 .0) (c .store .last .1 .1 .1 .0)
   next =
       let ok = start (d t) .pre .0 in
-      reached (m t) (z .sizes-of2 .result) (rows t) (rep t) (ok .sized) (ok .room) (z .sizes-of2 .ensures) (l .loop .k) (l .loop .e) (l .loop .q) (l .loop .inv .1 .0) new _ _ (c .store .result) made (c .store .ensures)
+      reached (m t) (z .magnitudes-of .result) (rows t) (rep t) (ok .sized) (ok .room) (z .magnitudes-of .ensures) (l .loop .k) (l .loop .e) (l .loop .q) (l .loop .inv .1 .0) new _ _ (c .store .result) made (c .store .ensures)
 
 sizes-of-requires : tie.Need-sizes-of-requires Inv-loop μ-loop
 sizes-of-requires c κs = omega (arith, c .before .pre .0 .whole .size)
@@ -79,8 +79,8 @@ sizes-of-requires c κs = omega (arith, c .before .pre .0 .whole .size)
 bound-terms-requires : tie.Need-bound-terms-requires Inv-loop μ-loop
 bound-terms-requires c κs = is-whole c
 
-sizes-of-requires-2 : tie.Need-sizes-of-requires-2 Inv-loop μ-loop
-sizes-of-requires-2 c κs =
+magnitudes-of-requires : tie.Need-magnitudes-of-requires Inv-loop μ-loop
+magnitudes-of-requires c κs =
     let t = c .before in
     let s = start (d t) .pre .0 .sized in
     (omega (arith, rep t .n-is, s .commands-most), row-words (m t) s (rep t .n-is) (rows t))
@@ -107,7 +107,7 @@ next-e-requires c κs =
     let z = l .before .before .before .before in
     let t = z .before .before in
     let ok = start (d t) .pre .0 in
-    ((fitting (m t) (z .sizes-of2 .result) (rows t) (rep t) (ok .sized) (ok .room) (z .sizes-of2 .ensures), weights (m t) (z .sizes-of2 .result) (rows t) (rep t) (ok .sized) (ok .room) (z .sizes-of2 .ensures) (l .loop .k) (l .loop .e) (l .loop .q) (l .loop .inv .1 .0)), l .loop .inv .1 .1)
+    ((fitting (m t) (z .magnitudes-of .result) (rows t) (rep t) (ok .sized) (ok .room) (z .magnitudes-of .ensures), weights (m t) (z .magnitudes-of .result) (rows t) (rep t) (ok .sized) (ok .room) (z .magnitudes-of .ensures) (l .loop .k) (l .loop .e) (l .loop .q) (l .loop .inv .1 .0)), l .loop .inv .1 .1)
 
 store-requires : tie.Need-store-requires Inv-loop μ-loop
 store-requires c κs =
@@ -116,8 +116,8 @@ store-requires c κs =
     let t = z .before .before in
     let ok = start (d t) .pre .0 in
     let at = l .loop .inv .1 .0 in
-    let f = fitting (m t) (z .sizes-of2 .result) (rows t) (rep t) (ok .sized) (ok .room) (z .sizes-of2 .ensures) in
-    ((f, small.e-nats (z .sizes-of2 .result) (l .loop .q) f (c .before .before .before .next-e .ensures)), ((e-nats (m t) (z .sizes-of2 .result) (rows t) (rep t) (ok .sized) (ok .room) (z .sizes-of2 .ensures) (l .loop .k) (l .loop .e) (l .loop .q) at, at .at-e .sized), at .at-q .sized))
+    let f = fitting (m t) (z .magnitudes-of .result) (rows t) (rep t) (ok .sized) (ok .room) (z .magnitudes-of .ensures) in
+    ((f, small.e-nats (z .magnitudes-of .result) (l .loop .q) f (c .before .before .before .next-e .ensures)), ((e-nats (m t) (z .magnitudes-of .result) (rows t) (rep t) (ok .sized) (ok .room) (z .magnitudes-of .ensures) (l .loop .k) (l .loop .e) (l .loop .q) at, at .at-e .sized), at .at-q .sized))
 
 returns : tie.Need-returns Inv-loop μ-loop
 returns c =
@@ -127,7 +127,7 @@ returns c =
     let t = t s in
     let ok = start (d t) .pre .0 in
     held-after (image (d t)) (start (d t) .args .count) (next s)
-    (settled (m t) (z .sizes-of2 .result) (rows t) (rep t) (ok .sized) (ok .room) (z .sizes-of2 .ensures) (l .loop .k) (l .loop .e) (l .loop .q) (l .loop .inv .1 .0) (new s) _ _ (s .store .result) (made s) (s .store .ensures) (c .if1 .taken) (start (d t) .args .count) (omega (arith, s .before .before .before .before .before .before .before .before .loop-test .taken)))
+    (settled (m t) (z .magnitudes-of .result) (rows t) (rep t) (ok .sized) (ok .room) (z .magnitudes-of .ensures) (l .loop .k) (l .loop .e) (l .loop .q) (l .loop .inv .1 .0) (new s) _ _ (s .store .result) (made s) (s .store .ensures) (c .if1 .taken) (start (d t) .args .count) (omega (arith, s .before .before .before .before .before .before .before .before .loop-test .taken)))
 
 add-k : tie.Need-add-k Inv-loop μ-loop
 add-k c = omega arith
@@ -155,7 +155,7 @@ bounds-after-spec =
     μ-loop
     sizes-of-requires
     bound-terms-requires
-    sizes-of-requires-2
+    magnitudes-of-requires
     blank-errors-requires
     blank-errors-requires-2
     blank-errors-requires-3

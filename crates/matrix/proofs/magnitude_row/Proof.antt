@@ -1,4 +1,4 @@
--- `matrix::size_row` meets its contract. Assumes nothing.
+-- `matrix::magnitude_row` meets its contract. Assumes nothing.
 use native.Mathlib.Omega.{arith}
 use mathlib.Core.Path.{_≡_}
 use mathlib.Core.List.{List}
@@ -10,14 +10,14 @@ use mir.Val.{SFits}
 use mir.Facts.{toZ-ofZ}
 use Rattle.integer.proofs.Machine.{fit-abs}
 use Rattle.array.proofs.Filling.{Filling, none, more, full}
-use Rattle.matrix.proofs.size_row.Statement.{statement}
-use Rattle.matrix.proofs.size_row.Tie as tie
+use Rattle.matrix.proofs.magnitude_row.Statement.{statement}
+use Rattle.matrix.proofs.magnitude_row.Tie as tie
 
-abbrev sizeAt : List ℤ → ℕ → ℕ
-sizeAt row j = natAbs (getD row j (pos 0))
+abbrev magnitudeAt : List ℤ → ℕ → ℕ
+magnitudeAt row j = natAbs (getD row j (pos 0))
 
 abbrev Inv-loop : tie.InvT-loop
-Inv-loop row n r₀ j₀ r j = Filling 0 (λ k x. x ≡ sizeAt row k) n j r
+Inv-loop row n r₀ j₀ r j = Filling 0 (λ k x. x ≡ magnitudeAt row k) n j r
 
 abbrev μ-loop : tie.MeasureT-loop
 μ-loop row n r₀ j₀ r j = n - j
@@ -30,7 +30,7 @@ module _ (c : tie.In-loop Inv-loop μ-loop) where
   abbrev j : ℕ
   j = c .before .loop .j
 
-  word : sizeAt (a .args .row .now) j ≤ 2 ^ 31
+  word : magnitudeAt (a .args .row .now) j ≤ 2 ^ 31
   word = a .pre .1 j (omega arith)
 
   fits : SFits w64 (getD (a .args .row .now) j (pos 0))
@@ -42,7 +42,7 @@ blank-errors-requires c κs = tt
 loop-holds : tie.Need-loop-holds Inv-loop μ-loop
 loop-holds c =
     let a = c .before .args in
-    none 0 (λ k x. x ≡ sizeAt (a .row .now) k) (a .n) (c .blank-errors .result) (c .blank-errors .ensures .sized)
+    none 0 (λ k x. x ≡ magnitudeAt (a .row .now) k) (a .n) (c .blank-errors .result) (c .blank-errors .ensures .sized)
 
 mul-magnitude : tie.Need-mul-magnitude Inv-loop μ-loop
 mul-magnitude c = omega arith
@@ -68,13 +68,13 @@ loop-less c = omega arith
 loop-again : tie.Need-loop-again Inv-loop μ-loop
 loop-again c =
     let d = c .before .before in
-    more 0 (λ k x. x ≡ sizeAt (a d .args .row .now) k) _ (a d .pre .0) (d .loop-test .taken) (d .before .loop .inv) (rw (toZ-ofZ (fits d)) at (c .magnitude .ensures))
+    more 0 (λ k x. x ≡ magnitudeAt (a d .args .row .now) k) _ (a d .pre .0) (d .loop-test .taken) (d .before .loop .inv) (rw (toZ-ofZ (fits d)) at (c .magnitude .ensures))
 
 returns : tie.Need-returns Inv-loop μ-loop
-returns c = full 0 (sizeAt (c .before .before .before .args .row .now)) (c .loop-test .left) (c .before .loop .inv)
+returns c = full 0 (magnitudeAt (c .before .before .before .args .row .now)) (c .loop-test .left) (c .before .loop .inv)
 
-pub size-row-spec : {M : Type 1} → statement M
-size-row-spec =
+pub magnitude-row-spec : {M : Type 1} → statement M
+magnitude-row-spec =
     tie.close
     (tie.spec
     Inv-loop
