@@ -7,7 +7,7 @@ use lib.ListN.{getD}
 use Rattle.integer.specs.Round.{ceil}
 use Rattle.gradient.specs.Bounds.{slack}
 use Rattle.array.specs.Arrays.{Filled, NatsTo}
-use Rattle.dot.specs.Sums.{weightTo, Weighable}
+use Rattle.weight.specs.Sums.{weightTo, Weighable}
 use Rattle.bounds.specs.declared.BoundTerms.{BoundTerms}
 
 -- "new e of a row is the smaller of w and (sum of |M| × q) / 2^b + c"

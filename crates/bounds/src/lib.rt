@@ -21,7 +21,7 @@ pub fn next_e(magnitudes: &[[u64; 16]; 16], t: BoundTerms, q: &[u64; 16], new: &
     let n = t.n;
     let mut i = 0;
     while i < n {
-        let w = integer::ceil_div(dot::weight(&magnitudes[i], q, n), t.b) + 1;
+        let w = integer::ceil_div(weight::weight(&magnitudes[i], q, n), t.b) + 1;
         new[i] = integer::smaller(t.width[i], w);
         i += 1;
     }

@@ -1,12 +1,12 @@
--- The sums of a row: of undivided products, and of magnitudes times error bounds. Assumes nothing.
+-- The sums of a row of undivided products. Assumes nothing.
 use mathlib.Core.List.{List}
-use Prim.Native.Nat.{ℕ, _+_, _*_, _^_, _≤_, _<_}
+use Prim.Native.Nat.{ℕ, _+_, _*_, _≤_}
 use lib.ListN.{length, getD}
 use lib.IntN.{ℤ, pos, _*ℤ_}
 use Rattle.word.specs.Word.{wordAt}
-use Rattle.gradient.specs.Index.{sumN, sumZ, productAt}
+use Rattle.gradient.specs.Index.{sumZ, productAt}
 use Rattle.gradient.specs.Demand.{In64}
-use Rattle.array.specs.Arrays.{WordsTo, NatsTo}
+use Rattle.array.specs.Arrays.{WordsTo}
 
 -- term i of a row of the image and a vector x
 unfoldable pub inputTerm : List ℕ → List ℤ → ℕ → ℤ
@@ -29,14 +29,3 @@ pub record RowSummable (row : List ℕ) (x : List ℤ) (n : ℕ) : Type 0 where
   pub held : 4 * n ≤ length row
   pub right : WordsTo n x
   pub runs : RunsTo n (inputTerm row x)
-
--- the sum of the first n magnitudes of a row, each times its q
-unfoldable pub weightTo : List ℕ → List ℕ → ℕ → ℕ
-weightTo r q n = sumN (λ (j : ℕ). getD r j 0 * getD q j 0) n
-
--- what that sum asks
-pub record Weighable (r q : List ℕ) (n : ℕ) : Type 0 where
-  pub few : n ≤ 16
-  pub left : NatsTo n r
-  pub right : NatsTo n q
-  pub small : weightTo r q n < 2 ^ 54

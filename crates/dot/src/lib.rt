@@ -1,8 +1,8 @@
-// The sums of a row: of its products with a vector, undivided, and of its magnitudes times error bounds.
+// The sum of a row: of its products with a vector, undivided.
 ghost use mathlib.Core.Path.{_≡_};
-ghost use Prim.Native.Nat.{_+_, _^_, _<_};
+ghost use Prim.Native.Nat.{_+_};
 ghost use Rattle.gradient.specs.Index.{sumZ, productAt};
-ghost use Rattle.dot.specs.Sums.{inputTerm, Summable, RowSummable, weightTo, Weighable};
+ghost use Rattle.dot.specs.Sums.{inputTerm, Summable, RowSummable};
 
 // Term i, a product.
 fn product(r: &[i64; 16], y: &[i64; 16], i: usize) -> i64
@@ -50,26 +50,4 @@ pub fn row_sum(row: &[u8], x: &[i64; 16], n: usize) -> i64
 {
     let r = array::words_of(row, n);
     dot(&r, x, 0, n)
-}
-
-// x itself, which is below 2^32. So the compiler sees factors of 32 bits, and takes two products by one instruction.
-fn low(x: u64) -> u64
-    requires { ⌜ x < 2 ^ 32 ⌝ }
-    ensures { λ r. ⌜ r ≡ x ⌝ }
-{
-    x % 4294967296
-}
-
-// The magnitudes of a row of M, each times its error bound of y.
-pub fn weight(r: &[u64; 16], q: &[u64; 16], n: usize) -> u64
-    requires { ⌜ Weighable (now r) (now q) n ⌝ }
-    ensures { λ w. ⌜ w ≡ weightTo (now (r .entry)) (now (q .entry)) n ⌝ }
-{
-    let mut w = 0u64;
-    let mut j = 0;
-    while j < n {
-        w += low(r[j]) * low(q[j]);
-        j += 1;
-    }
-    w
 }

@@ -22,7 +22,7 @@ use Rattle.image.specs.Layout.{problemOf}
 use Rattle.interface.specs.Calls.{boundsAfter}
 use Rattle.array.specs.Arrays.{Filled, Tabled, NatsTo}
 use Rattle.array.proofs.Filling.{same-held}
-use Rattle.dot.specs.Sums.{weightTo}
+use Rattle.weight.specs.Sums.{termAt, weightTo}
 use Rattle.bounds.specs.declared.BoundTerms.{BoundTerms}
 use Rattle.bounds.specs.Steps.{eAt, qAt, Fitting, WeightsTo, Stored}
 use Rattle.loading.proofs.Tables.{nothing, command, HasRows, HasBounds, count-is}
@@ -62,7 +62,7 @@ module _ {p : Problem} (m : List (List ℤ)) (magnitudes : List (List ℕ)) {t :
     q-nats i h = rw (at .at-q .each i h) (q-fits p sized nothing k i h (headroom-at p room nothing i h .fitsY))
 
     weight-is : (i : ℕ) → i < N → weightTo (getD magnitudes i []) q (t .n) ≡ weight (command p i .row) (E .q)
-    unfolding weightTo
+    unfolding weightTo termAt
     weight-is i h =
         rw (rep .n-is)
         (sumN-cong _ _ N (λ j l. rw (magnitude-is i h j l, at .at-q .each j l))
