@@ -74,7 +74,7 @@ pub fn command_terms(image: &[u8], state: &[u8], target: &[u8], z: Sizes) -> Com
     let lower = l.lower;
     let upper = l.upper;
     let linear = linear_terms(image, state, target, z);
-    let momentum = magnitudes::size(image::momentum_at(image, z));
+    let momentum = magnitudes::momentum_size(image, z);
     CommandTerms {
         lower,
         upper,
@@ -107,7 +107,7 @@ pub fn bound_terms(image: &[u8], z: Sizes) -> BoundTerms
 {
     let n = z.nu * z.steps;
     let width = widths_of(image, z);
-    let momentum = magnitudes::size(image::momentum_at(image, z));
+    let momentum = magnitudes::momentum_size(image, z);
     BoundTerms {
         width,
         momentum,

@@ -1,4 +1,4 @@
-// The magnitudes that the checks compare and sum: of a word, of a command's limits, and its ranges P and Y.
+// The magnitudes that the checks and the solve take: of a word, of β, of a command's limits, and its ranges P and Y.
 ghost use mathlib.Core.Path.{_≡_};
 ghost use Prim.Native.Nat.{_+_, _*_, _^_, _≤_, _<_};
 ghost use lib.IntN.{natAbs};
@@ -16,6 +16,14 @@ pub fn size(x: i64) -> u64
     ensures { λ r. ⌜ (r ≡ natAbs x) × (r ≤ 2 ^ 31) ⌝ }
 {
     integer::magnitude(x)
+}
+
+// The magnitude of β's word.
+pub fn momentum_size(image: &[u8], z: Sizes) -> u64
+    requires { ⌜ Whole z (now image) ⌝ }
+    ensures { λ r. ⌜ (r ≡ natAbs (momentumAt z (now (image .entry)))) × (r ≤ 2 ^ 31) ⌝ }
+{
+    size(image::momentum_at(image, z))
 }
 
 // zb of command k: the larger magnitude of its limits.
@@ -44,7 +52,7 @@ fn range_bound(image: &[u8], z: Sizes, k: usize, x: u64) -> u64
     requires { ⌜ Whole z (now image) × (k < commandCount z) × (x < 2 ^ 32) ⌝ }
     ensures { λ r. ⌜ r ≡ magnitude (commandAt z (now (image .entry)) k) + ceil (natAbs (momentumAt z (now (image .entry))) * x) (2 ^ z .b) ⌝ }
 {
-    let m = size(image::momentum_at(image, z));
+    let m = momentum_size(image, z);
     let l = largest_limit(image, z, k);
     l + integer::ceil_div(m * x, z.b)
 }

@@ -1,7 +1,5 @@
 -- `loading::command_terms` meets its contract. Assumes nothing.
-use mathlib.Core.Path.{refl, ap, _∙_}
-use lib.IntN.{natAbs}
-use Rattle.integer.proofs.Machine.{back}
+use mathlib.Core.Path.{refl}
 use borrow.Author.Needs.{needs}
 use Rattle.loading.proofs.command_terms.Statement.{statement}
 use Rattle.loading.proofs.command_terms.Tie as tie
@@ -15,21 +13,17 @@ limits-of-requires c κs = search needs
 linear-terms-requires : tie.Need-linear-terms-requires
 linear-terms-requires c κs = search needs
 
-momentum-at-requires : tie.Need-momentum-at-requires
-momentum-at-requires c κs = search needs
-
-size-requires : tie.Need-size-requires
-size-requires c κs = search needs
+momentum-size-requires : tie.Need-momentum-size-requires
+momentum-size-requires c κs = search needs
 
 returns : tie.Need-returns
 returns c =
-    let l = c .before .before .before .before .before .limits-of .ensures in
-    let m = c .before .momentum-at in
+    let l = c .before .before .before .before .limits-of .ensures in
     record {
       lowers = l .lowers;
       uppers = l .uppers;
-      linears = c .before .before .linear-terms .ensures;
-      momentum-is = (rw (back (m .result) (m .ok)) at (c .size .ensures .0)) ∙ ap natAbs (m .ensures .0);
+      linears = c .before .linear-terms .ensures;
+      momentum-is = c .momentum-size .ensures .0;
       n-is = refl;
       b-is = refl;
     }
@@ -41,6 +35,5 @@ command-terms-spec =
     mul-n
     limits-of-requires
     linear-terms-requires
-    momentum-at-requires
-    size-requires
+    momentum-size-requires
     returns)
