@@ -14,21 +14,21 @@ use Rattle.gradient.proofs.Tests.{every2-to}
 use Rattle.image.specs.declared.Sizes.{Sizes}
 use Rattle.image.specs.declared.Input.{Input}
 use Rattle.image.specs.Sizes.{commandCount, inputCount}
-use Rattle.image.specs.Layout.{lowerAt, upperAt, boundAt, boundsOf, problemAt}
+use Rattle.image.specs.Layout.{lowerAt, upperAt, limitAt, limitsOf, problemAt}
 use Rattle.interface.specs.Calls.{valuesOf, valuesWithin, startOf}
-use Rattle.interface.proofs.Accept.{within-to, bounds-count, input-bound-at}
+use Rattle.interface.proofs.Accept.{within-to, limits-count, input-limit-at}
 
 -- ---- 13 and 16: a value of an input, and its limit
 abbrev pub valueTest : Input → Sizes → List ℕ → List ℕ → ℕ → Bool
-valueTest v z s values j = leb (natAbs (wordAt values (4 * j))) (natAbs (boundAt v z s j))
+valueTest v z s values j = leb (natAbs (wordAt values (4 * j))) (natAbs (limitAt v z s j))
 
 pub values-to : (v : Input) (z : Sizes) (s values : List ℕ) → valuesWithin v z s values ≡ allTo (valueTest v z s values) (inputCount v z)
 unfolding valuesWithin valuesOf
 values-to v z s values =
     let n = inputCount v z in
-    every2-to (λ (x : ℤ) (b : ℕ). leb (natAbs x) b) (wordsAt values 0 n) (boundsOf v z s) (pos 0) 0 n
-    (length-words-at values 0 n) (bounds-count z s v) (valueTest v z s values)
-    (λ j l. rw (getD-words-front values n j l, input-bound-at z s v j l))
+    every2-to (λ (x : ℤ) (b : ℕ). leb (natAbs x) b) (wordsAt values 0 n) (limitsOf v z s) (pos 0) 0 n
+    (length-words-at values 0 n) (limits-count z s v) (valueTest v z s values)
+    (λ j l. rw (getD-words-front values n j l, input-limit-at z s v j l))
 
 -- ---- 14: a command of the start, and its limits
 abbrev pub startTest : Sizes → List ℕ → List ℕ → ℕ → Bool

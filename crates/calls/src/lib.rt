@@ -18,7 +18,7 @@ fn values_pass(image: &[u8], z: Sizes, v: Input, values: &[u8]) -> bool
     let count = image::input_count(z, v);
     let mut j = 0;
     while j < count {
-        if size(image::bound_at(image, z, v, j)) < size(word::word_at(values, 4 * j)) {
+        if size(image::limit_at(image, z, v, j)) < size(word::word_at(values, 4 * j)) {
             return false;
         }
         j += 1;

@@ -13,9 +13,9 @@ use Rattle.gradient.specs.Scheme.{linear, unclamped, nextZ, nextY, step, iterat
 use Rattle.gradient.specs.Bounds.{magnitude, width, rangeP, rangeY, rangeA, rangeB, slack, weight, nextE, nextQ, errorStep, errorAfter}
 use Rattle.gradient.specs.Demand.{every, every2, startWithin}
 use Rattle.image.specs.Sizes.{sound}
-use Rattle.image.specs.Layout.{sizesOf, lowerAt, upperAt, momentumAt, boundAt, entryOf, commandAt, problemAt, problemOf}
+use Rattle.image.specs.Layout.{sizesOf, lowerAt, upperAt, momentumAt, limitAt, entryOf, commandAt, problemAt, problemOf}
 use Rattle.image.specs.Checks.{headNumber, bodyNumber}
-use Rattle.interface.specs.Tables.{symmetryTest, othersAt, marginAt, totalAt, leastMargin, largestTotal, momentumRange, momentumRatio, pointTest, rowTest, tablesNumber, imageNumber}
+use Rattle.interface.specs.Tables.{symmetryTest, othersAt, marginAt, totalAt, leastMargin, largestTotal, momentumRange, momentumRatio, rangeTest, rowTest, tablesNumber, imageNumber}
 use Rattle.interface.specs.Calls.{valuesOf, inputsOf, startOf, coldAnswer, valuesWithin, callNumber, solveNumber, commandsAfter, boundsAfter}
 use Rattle.line.specs.Line.{lineAt}
 use Rattle.frame.specs.Frame.{dueAt, headOf, total, wordOf}
@@ -27,5 +27,5 @@ use Rattle.design_page.specs.Page.{designCount, pageLine, pageNumber, sheetPage
 use Rattle.cases.specs.Cases.{holds, table, S, two, following, varying, limited, skewed, halved, full, wide}
 
 pub starred : every holds table ≡ true
-unfolding floor ceil clamp numberBE digitsBE natBE bytesBE wordsAt wordsOut scalable rounded accepted ofBits F coldStart linear unclamped nextZ nextY step iterate magnitude width rangeP rangeY rangeA rangeB slack weight nextE nextQ errorStep errorAfter every every2 startWithin sound sizesOf lowerAt upperAt momentumAt boundAt entryOf commandAt problemAt problemOf headNumber bodyNumber symmetryTest othersAt marginAt totalAt leastMargin largestTotal momentumRange momentumRatio pointTest rowTest tablesNumber imageNumber valuesOf inputsOf startOf coldAnswer valuesWithin callNumber solveNumber commandsAfter boundsAfter eq size round toBits joined isHex digitOf hexes hexAt digitByte hexDigits lineAt dueAt headOf total wordOf lineFault lineValue lineWord sheetImage sheetNumber sheetWords designNumber isKept effectOf lineText designCount pageLine pageNumber sheetPage holds table S two following varying limited skewed halved full wide
+unfolding floor ceil clamp numberBE digitsBE natBE bytesBE wordsAt wordsOut scalable rounded accepted ofBits F coldStart linear unclamped nextZ nextY step iterate magnitude width rangeP rangeY rangeA rangeB slack weight nextE nextQ errorStep errorAfter every every2 startWithin sound sizesOf lowerAt upperAt momentumAt limitAt entryOf commandAt problemAt problemOf headNumber bodyNumber symmetryTest othersAt marginAt totalAt leastMargin largestTotal momentumRange momentumRatio rangeTest rowTest tablesNumber imageNumber valuesOf inputsOf startOf coldAnswer valuesWithin callNumber solveNumber commandsAfter boundsAfter eq size round toBits joined isHex digitOf hexes hexAt digitByte hexDigits lineAt dueAt headOf total wordOf lineFault lineValue lineWord sheetImage sheetNumber sheetWords designNumber isKept effectOf lineText designCount pageLine pageNumber sheetPage holds table S two following varying limited skewed halved full wide
 starred = refl

@@ -55,18 +55,18 @@ holds (pages sheet room n) = eqb (pageNumber sheet room) n
 -- ---- the images
 -- S with a step factor, limits −l and l, a state limit
 unfoldable pub S : ℕ → ℕ → ℕ → List ℕ
-S beta l bound =
-    wordsOut (map pos (1 ∷ 1 ∷ 1 ∷ 4 ∷ 8 ∷ 3 ∷ 0 ∷ 0 ∷ 8 ∷ 16 ∷ []) ++ (negℤ (pos l) ∷ map pos (l ∷ beta ∷ bound ∷ [])))
+S beta l stateLimit =
+    wordsOut (map pos (1 ∷ 1 ∷ 1 ∷ 4 ∷ 8 ∷ 3 ∷ 0 ∷ 0 ∷ 8 ∷ 16 ∷ []) ++ (negℤ (pos l) ∷ map pos (l ∷ beta ∷ stateLimit ∷ [])))
 
 -- one motor, two steps, and H with rows (d, o), (o, d); otherwise S's values, the limits at both steps
 unfoldable pub two : ℕ → ℕ → ℕ → List ℕ
 two d o beta =
     wordsOut (map pos (1 ∷ 2 ∷ 1 ∷ 4 ∷ 8 ∷ 3 ∷ 0 ∷ 0 ∷ d ∷ o ∷ o ∷ d ∷ 16 ∷ 16 ∷ []) ++ (negsuc 19 ∷ negsuc 19 ∷ map pos (20 ∷ 20 ∷ beta ∷ 10 ∷ [])))
 
--- S with one target value of limit `bound`, and −1 as its entry of the target table: h is the state less the target
+-- S with one target value of limit `targetLimit`, and −1 as its entry of the target table: h is the state less the target
 unfoldable pub following : ℕ → List ℕ
-following bound =
-    wordsOut (map pos (1 ∷ 1 ∷ 1 ∷ 4 ∷ 8 ∷ 3 ∷ 1 ∷ 0 ∷ 8 ∷ 16 ∷ []) ++ (negsuc 19 ∷ map pos (20 ∷ 0 ∷ 10 ∷ []) ++ (negsuc 15 ∷ pos bound ∷ [])))
+following targetLimit =
+    wordsOut (map pos (1 ∷ 1 ∷ 1 ∷ 4 ∷ 8 ∷ 3 ∷ 1 ∷ 0 ∷ 8 ∷ 16 ∷ []) ++ (negsuc 19 ∷ map pos (20 ∷ 0 ∷ 10 ∷ []) ++ (negsuc 15 ∷ pos targetLimit ∷ [])))
 
 -- one motor, two steps, and H diagonal: step 0 has S's limits, step 1 limits of its own
 unfoldable pub varying : ℕ → ℤ → ℤ → List ℕ
@@ -87,10 +87,10 @@ unfoldable pub halved : ℕ → ℕ → ℕ → List ℕ
 halved l state target =
     wordsOut (map pos (1 ∷ 1 ∷ 1 ∷ 4 ∷ 8 ∷ 3 ∷ 1 ∷ 0 ∷ 8 ∷ 8 ∷ []) ++ (negℤ (pos l) ∷ map pos (l ∷ 0 ∷ state ∷ 8 ∷ target ∷ [])))
 
--- H is 1, so M and A are 0; Φ is 1 and the state limit top, and the target's entry 1 count with limit `bound`
+-- H is 1, so M and A are 0; Φ is 1 and the state limit top, and the target's entry 1 count with limit `targetLimit`
 unfoldable pub full : ℕ → List ℕ
-full bound =
-    wordsOut (map pos (1 ∷ 1 ∷ 1 ∷ 4 ∷ 8 ∷ 3 ∷ 1 ∷ 0 ∷ 16 ∷ 16 ∷ []) ++ (negsuc 19 ∷ map pos (20 ∷ 0 ∷ 127 ∷ 1 ∷ bound ∷ [])))
+full targetLimit =
+    wordsOut (map pos (1 ∷ 1 ∷ 1 ∷ 4 ∷ 8 ∷ 3 ∷ 1 ∷ 0 ∷ 16 ∷ 16 ∷ []) ++ (negsuc 19 ∷ map pos (20 ∷ 0 ∷ 127 ∷ 1 ∷ targetLimit ∷ [])))
 
 -- S in words of 32 bits with twelve state and four target values, every entry of the two tables and every limit of theirs the largest word
 abbrev largest : ℕ → List ℤ

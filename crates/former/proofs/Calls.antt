@@ -17,9 +17,9 @@ use Rattle.image.specs.declared.Sizes.{Sizes}
 use Rattle.image.specs.declared.Input.{Input}
 use Rattle.image.specs.declared.Input.the-variants.{State, Target}
 use Rattle.image.specs.Sizes.{commandCount, inputCount, bodyCount}
-use Rattle.image.specs.Layout.{sizesOf, upperPlace, momentumPlace, gainsFrom, boundsFrom, lowerPlace, lowerAt, upperAt, momentumAt, boundAt, gainsOf, boundsOf, commandAt, problemAt, problemOf}
-use Rattle.image.specs.Checks.{boundTest, headNumber, bodyNumber}
-use Rattle.interface.specs.Tables.{orderTest, stopTest, momentumRange, momentumRatio, pointTest, rowTest, tablesNumber, imageNumber}
+use Rattle.image.specs.Layout.{sizesOf, upperPlace, momentumPlace, gainsFrom, limitsFrom, lowerPlace, lowerAt, upperAt, momentumAt, limitAt, gainsOf, limitsOf, commandAt, problemAt, problemOf}
+use Rattle.image.specs.Checks.{limitTest, headNumber, bodyNumber}
+use Rattle.interface.specs.Tables.{orderTest, stopTest, momentumRange, momentumRatio, rangeTest, rowTest, tablesNumber, imageNumber}
 use Rattle.interface.specs.Calls.{inputsOf, startOf, valuesWithin, coldNumber, coldAnswer, callNumber, solveNumber, commandsAfter, boundsAfter, solveAnswer}
 use Rattle.former.specs.Former as former
 use Rattle.former.specs.Relaid.{SameCalls}
@@ -37,9 +37,9 @@ module _ (z : Sizes) (one : z .steps ≡ 1) where
   gains-place State = refl
   gains-place Target = omega (arith, count-is)
 
-  bounds-place : (v : Input) → boundsFrom v z ≡ former.boundsFrom v z
-  bounds-place State = omega (arith, count-is)
-  bounds-place Target = omega (arith, count-is)
+  limits-place : (v : Input) → limitsFrom v z ≡ former.limitsFrom v z
+  limits-place State = omega (arith, count-is)
+  limits-place Target = omega (arith, count-is)
 
   own-motor : (k : ℕ) → k < commandCount z → k % z .nu ≡ k
   own-motor k h = let l : k < z .nu = omega (arith, count-is) in mod-eq-of-lt l
@@ -59,12 +59,12 @@ module _ (z : Sizes) (one : z .steps ≡ 1) where
     unfolding momentumAt former.momentumAt
     momentum-same = let e : momentumPlace z ≡ former.momentumPlace z = omega (arith, count-is) in ap (wordAt s) e
 
-    bound-same : (v : Input) (j : ℕ) → boundAt v z s j ≡ former.boundAt v z s j
-    unfolding boundAt former.boundAt
-    bound-same v j = ap (λ (at : ℕ). wordAt s (at + 4 * j)) (bounds-place v)
+    limit-same : (v : Input) (j : ℕ) → limitAt v z s j ≡ former.limitAt v z s j
+    unfolding limitAt former.limitAt
+    limit-same v j = ap (λ (at : ℕ). wordAt s (at + 4 * j)) (limits-place v)
 
-    bounds-same : (v : Input) → boundsOf v z s ≡ former.boundsOf v z s
-    bounds-same v = ap (λ (at : ℕ). map natAbs (wordsAt s at (inputCount v z))) (bounds-place v)
+    limits-same : (v : Input) → limitsOf v z s ≡ former.limitsOf v z s
+    limits-same v = ap (λ (at : ℕ). map natAbs (wordsAt s at (inputCount v z))) (limits-place v)
 
     gains-same : (v : Input) (i : ℕ) → gainsOf v z s i ≡ former.gainsOf v z s i
     gains-same v i = ap (λ (at : ℕ). wordsAt (drop (at + 4 * (i * inputCount v z)) s) 0 (inputCount v z)) (gains-place v)
@@ -75,7 +75,7 @@ module _ (z : Sizes) (one : z .steps ≡ 1) where
 
     problem-same : problemAt z s ≡ former.problemAt z s
     unfolding problemAt former.problemAt
-    problem-same = rw (momentum-same, bounds-same State, bounds-same Target, tab-cong (commandAt z s) (former.commandAt z s) _ command-same)
+    problem-same = rw (momentum-same, limits-same State, limits-same Target, tab-cong (commandAt z s) (former.commandAt z s) _ command-same)
 
     -- checks 5, 7, 17 and 8 to 12
     body-same : bodyNumber z s ≡ former.bodyNumber z s
@@ -83,13 +83,13 @@ module _ (z : Sizes) (one : z .steps ≡ 1) where
     body-same =
         rw (
           body-count,
-          all-cong (boundTest State z s) (former.boundTest State z s) (z .nx) (λ j l. ap (leZ (pos 0)) (bound-same State j)),
-          all-cong (boundTest Target z s) (former.boundTest Target z s) (z .nr) (λ j l. ap (leZ (pos 0)) (bound-same Target j)),
+          all-cong (limitTest State z s) (former.limitTest State z s) (z .nx) (λ j l. ap (leZ (pos 0)) (limit-same State j)),
+          all-cong (limitTest Target z s) (former.limitTest Target z s) (z .nr) (λ j l. ap (leZ (pos 0)) (limit-same Target j)),
         )
 
-    point-same : (k : ℕ) → k < commandCount z → pointTest z s k ≡ former.pointTest z s k
-    unfolding pointTest former.pointTest
-    point-same k h = rw (problem-same, command-same k h)
+    range-same : (k : ℕ) → k < commandCount z → rangeTest z s k ≡ former.rangeTest z s k
+    unfolding rangeTest former.rangeTest
+    range-same k h = rw (problem-same, command-same k h)
 
     row-same : (k : ℕ) → k < commandCount z → rowTest z s k ≡ former.rowTest z s k
     unfolding rowTest former.rowTest
@@ -102,13 +102,13 @@ module _ (z : Sizes) (one : z .steps ≡ 1) where
           all-cong (orderTest z s) (former.orderTest z s) (commandCount z) (λ k h. rw (lower-same k h, upper-same k h)),
           all-cong (stopTest z s) (former.stopTest z s) (commandCount z) (λ k h. rw (lower-same k h, upper-same k h)),
           momentum-same,
-          all-cong (pointTest z s) (former.pointTest z s) (commandCount z) point-same,
+          all-cong (rangeTest z s) (former.rangeTest z s) (commandCount z) range-same,
           all-cong (rowTest z s) (former.rowTest z s) (commandCount z) row-same,
         )
 
     pub within-same : (v : Input) (values : List ℕ) → valuesWithin v z s values ≡ former.valuesWithin v z s values
     unfolding valuesWithin former.valuesWithin
-    within-same v values = rw (bounds-same v)
+    within-same v values = rw (limits-same v)
 
 -- ---- an image with N 1
 module _ (s : List ℕ) (one : sizesOf s .steps ≡ 1) where

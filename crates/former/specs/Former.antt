@@ -52,22 +52,22 @@ upperPlace z = lowerPlace z + 4 * z .nu
 abbrev pub momentumPlace : Sizes → ℕ
 momentumPlace z = upperPlace z + 4 * z .nu
 
-abbrev pub boundPlace : Sizes → ℕ
-boundPlace z = momentumPlace z + 4
+abbrev pub stateLimitPlace : Sizes → ℕ
+stateLimitPlace z = momentumPlace z + 4
 
 abbrev pub targetGainPlace : Sizes → ℕ
-targetGainPlace z = boundPlace z + 4 * z .nx
+targetGainPlace z = stateLimitPlace z + 4 * z .nx
 
-abbrev pub targetBoundPlace : Sizes → ℕ
-targetBoundPlace z = targetGainPlace z + 4 * (commandCount z * z .nr)
+abbrev pub targetLimitPlace : Sizes → ℕ
+targetLimitPlace z = targetGainPlace z + 4 * (commandCount z * z .nr)
 
 abbrev pub gainsFrom : Input → Sizes → ℕ
 gainsFrom State z = gainPlace z
 gainsFrom Target z = targetGainPlace z
 
-abbrev pub boundsFrom : Input → Sizes → ℕ
-boundsFrom State z = boundPlace z
-boundsFrom Target z = targetBoundPlace z
+abbrev pub limitsFrom : Input → Sizes → ℕ
+limitsFrom State z = stateLimitPlace z
+limitsFrom Target z = targetLimitPlace z
 
 abbrev pub gainOffset : Input → Sizes → ℕ → ℕ
 gainOffset v z i = gainsFrom v z + 4 * (i * inputCount v z)
@@ -84,14 +84,14 @@ upperAt z s k = wordAt s (upperPlace z + 4 * (k % z .nu))
 unfoldable pub momentumAt : Sizes → List ℕ → ℤ
 momentumAt z s = wordAt s (momentumPlace z)
 
-unfoldable pub boundAt : Input → Sizes → List ℕ → ℕ → ℤ
-boundAt v z s j = wordAt s (boundsFrom v z + 4 * j)
+unfoldable pub limitAt : Input → Sizes → List ℕ → ℕ → ℤ
+limitAt v z s j = wordAt s (limitsFrom v z + 4 * j)
 
 abbrev pub gainsOf : Input → Sizes → List ℕ → ℕ → List ℤ
 gainsOf v z s k = wordsAt (gainRow v z s k) 0 (inputCount v z)
 
-abbrev pub boundsOf : Input → Sizes → List ℕ → List ℕ
-boundsOf v z s = map natAbs (wordsAt s (boundsFrom v z) (inputCount v z))
+abbrev pub limitsOf : Input → Sizes → List ℕ → List ℕ
+limitsOf v z s = map natAbs (wordsAt s (limitsFrom v z) (inputCount v z))
 
 unfoldable pub commandAt : Sizes → List ℕ → ℕ → Command
 commandAt z s k = record {
@@ -108,7 +108,7 @@ problemAt z s = record {
   iterations = z .sweeps;
   momentum = natAbs (momentumAt z s);
   commands = tab (commandAt z s) (commandCount z);
-  inputBounds = boundsOf State z s ++ boundsOf Target z s;
+  inputLimits = limitsOf State z s ++ limitsOf Target z s;
 }
 
 unfoldable pub problemOf : List ℕ → Problem
@@ -124,15 +124,15 @@ headNumber s =
     ∷ check 6 (eqb (length s) (4 * (8 + bodyCount (sizesOf s))))
     ∷ [])
 
-abbrev pub boundTest : Input → Sizes → List ℕ → ℕ → Bool
-boundTest v z s j = leZ (pos 0) (boundAt v z s j)
+abbrev pub limitTest : Input → Sizes → List ℕ → ℕ → Bool
+limitTest v z s j = leZ (pos 0) (limitAt v z s j)
 
 unfoldable pub bodyNumber : Sizes → List ℕ → ℕ
 bodyNumber z s =
     firstFault
     (check 5 (allTo (wordTest z s) (bodyCount z))
-    ∷ check 5 (allTo (boundTest State z s) (z .nx))
-    ∷ check 5 (allTo (boundTest Target z s) (z .nr))
+    ∷ check 5 (allTo (limitTest State z s) (z .nx))
+    ∷ check 5 (allTo (limitTest Target z s) (z .nr))
     ∷ [])
 
 -- ---- interface: checks 7, 17 and 8 to 12
@@ -151,8 +151,8 @@ momentumRatio z s =
     let m = momentumAt z s in
     leZ ((f -ℤ m) *ℤ (f -ℤ m) *ℤ largestTotal z s) ((f +ℤ m) *ℤ (f +ℤ m) *ℤ leastMargin z s)
 
-unfoldable pub pointTest : Sizes → List ℕ → ℕ → Bool
-pointTest z s i = leb (rangeP (problemAt z s) (commandAt z s i)) (top (z .w)) && leb (rangeY (problemAt z s) (commandAt z s i)) (top (z .w))
+unfoldable pub rangeTest : Sizes → List ℕ → ℕ → Bool
+rangeTest z s i = leb (rangeP (problemAt z s) (commandAt z s i)) (top (z .w)) && leb (rangeY (problemAt z s) (commandAt z s i)) (top (z .w))
 
 unfoldable pub rowTest : Sizes → List ℕ → ℕ → Bool
 rowTest z s i = leb (rangeA (problemAt z s) (commandAt z s i) + rangeB (problemAt z s) (commandAt z s i)) (top (z .w))
@@ -168,7 +168,7 @@ tablesNumber z s =
     ∷ check 10 (allTo (totalTest z s) n)
     ∷ check 11 (momentumRange z s)
     ∷ check 11 (momentumRatio z s)
-    ∷ check 12 (allTo (pointTest z s) n)
+    ∷ check 12 (allTo (rangeTest z s) n)
     ∷ check 12 (allTo (rowTest z s) n)
     ∷ [])
 
@@ -183,7 +183,7 @@ unfoldable pub coldAnswer : List ℕ → List ℕ
 coldAnswer image = wordsOut (coldStart (problemOf image))
 
 unfoldable pub valuesWithin : Input → Sizes → List ℕ → List ℕ → Bool
-valuesWithin v z image values = every2 (λ (x : ℤ) (b : ℕ). leb (natAbs x) b) (valuesOf v z values) (boundsOf v z image)
+valuesWithin v z image values = every2 (λ (x : ℤ) (b : ℕ). leb (natAbs x) b) (valuesOf v z values) (limitsOf v z image)
 
 abbrev pub inputPasses : Input → Sizes → List ℕ → List ℕ → Bool
 inputPasses v z image values = eqb (length values) (4 * inputCount v z) && valuesWithin v z image values

@@ -21,7 +21,7 @@ use Rattle.image.specs.declared.Sizes.{Sizes}
 use Rattle.image.specs.Sizes.{commandCount}
 use Rattle.image.specs.Layout.{sizesOf, commandAt, problemAt}
 use Rattle.image.specs.Checks.{headNumber, bodyNumber}
-use Rattle.interface.specs.Tables.{orderTest, stopTest, symmetryTest, marginTest, totalTest, momentumRange, momentumRatio, pointTest, rowTest, tablesNumber, imageNumber}
+use Rattle.interface.specs.Tables.{orderTest, stopTest, symmetryTest, marginTest, totalTest, momentumRange, momentumRatio, rangeTest, rowTest, tablesNumber, imageNumber}
 use Rattle.former_rounding.specs.Former as former
 use Rattle.former_rounding.specs.Once.{KeptOrPassed, TablesKept, ImageKept}
 
@@ -42,7 +42,7 @@ module _ (p : Problem) (r : Command) where
 
   B-most : rangeB p r ≤ former.rangeB p r
   unfolding rangeB former.rangeB
-  B-most = once-most (F p) (F-pos p) (r .gains) (p .inputBounds)
+  B-most = once-most (F p) (F-pos p) (r .gains) (p .inputLimits)
 
 row-passes : (z : Sizes) (s : List ℕ) (i : ℕ) → former.rowTest z s i ≡ true → rowTest z s i ≡ true
 unfolding rowTest former.rowTest
@@ -72,7 +72,7 @@ tables-kept z s =
     (after (allTo (totalTest z s) n) 10 _ _
     (after (momentumRange z s) 11 _ _
     (after (momentumRatio z s) 11 _ _
-    (after (allTo (pointTest z s) n) 12 _ _
+    (after (allTo (rangeTest z s) n) 12 _ _
     (last (allTo (rowTest z s) n) (allTo (former.rowTest z s) n)
     (λ e. all-of (rowTest z s) n (λ k l. row-passes z s k (all-at (former.rowTest z s) n k l e)))))))))))
 

@@ -21,7 +21,7 @@ use Rattle.image.specs.Sizes.{commandCount}
 use Rattle.image.specs.Layout.{sizesOf, commandAt, problemAt, problemOf}
 use Rattle.interface.specs.Tables.{rowTest, tablesNumber, imageNumber}
 use Rattle.interface.specs.Calls.{inputsOf, startOf, solveNumber, commandsAfter, boundsAfter, solveAnswer}
-use Rattle.interface.proofs.Accept.{commands-length, bounds-length}
+use Rattle.interface.proofs.Accept.{commands-length, limits-length}
 use Rattle.interface.proofs.Demand.{inputs-length, start-length}
 use Rattle.former_rounding.specs.Former as former
 use Rattle.former_rounding.specs.Once.{Same}
@@ -58,14 +58,14 @@ map-cong f g h [] = refl
 map-cong f g h (a ∷ l) = rw (h a, map-cong f g h l) refl
 
 -- ---- of a problem with one command and one input
-module _ (p : Problem) (one : length (p .commands) ≡ 1) (single : length (p .inputBounds) ≡ 1) where
+module _ (p : Problem) (one : length (p .commands) ≡ 1) (single : length (p .inputLimits) ≡ 1) where
   A-same : (r : Command) → rangeA p r ≡ former.rangeA p r
   unfolding rangeA former.rangeA
   A-same r = weight-one (F p) (F-pos p) (r .row) (map (rangeY p) (p .commands)) (omega (arith, length-map (p .commands) (rangeY p)))
 
   B-same : (r : Command) → rangeB p r ≡ former.rangeB p r
   unfolding rangeB former.rangeB
-  B-same r = weight-one (F p) (F-pos p) (r .gains) (p .inputBounds) (omega arith)
+  B-same r = weight-one (F p) (F-pos p) (r .gains) (p .inputLimits) (omega arith)
 
   slack-same : slack ≡ former.slack p
   unfolding slack former.slack
@@ -113,7 +113,7 @@ module _ (z : Sizes) (image : List ℕ) (one : commandCount z ≡ 1) (single : z
   row-same i h =
       let p = problemAt z image in
       let n : length (p .commands) ≡ 1 = commands-length z image ∙ one in
-      let m : length (p .inputBounds) ≡ 1 = bounds-length z image ∙ single in
+      let m : length (p .inputLimits) ≡ 1 = limits-length z image ∙ single in
       rw (A-same p n m (commandAt z image i), B-same p n m (commandAt z image i)) refl
 
   tables-same : tablesNumber z image ≡ former.tablesNumber z image
@@ -126,7 +126,7 @@ one-term image state target start room one single =
     let z = sizesOf image in
     let p = problemOf image in
     let n : length (p .commands) ≡ 1 = commands-length z image ∙ one in
-    let m : length (p .inputBounds) ≡ 1 = bounds-length z image ∙ single in
+    let m : length (p .inputLimits) ≡ 1 = limits-length z image ∙ single in
     let s = iterates-same p n m (inputsOf z state target) (startOf z start) (inputs-length z state target ∙ single) (start-length z start ∙ sym (commands-length z image)) (z .sweeps) in
     record {
       number = rw (tables-same z image one single) refl;

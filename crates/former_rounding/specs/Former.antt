@@ -20,7 +20,7 @@ use Rattle.image.specs.Order.{check, firstFault, orElse}
 use Rattle.image.specs.Sizes.{commandCount}
 use Rattle.image.specs.Layout.{sizesOf, commandAt, problemAt, problemOf}
 use Rattle.image.specs.Checks.{headNumber, bodyNumber}
-use Rattle.interface.specs.Tables.{orderTest, stopTest, symmetryTest, marginTest, totalTest, momentumRange, momentumRatio, pointTest}
+use Rattle.interface.specs.Tables.{orderTest, stopTest, symmetryTest, marginTest, totalTest, momentumRange, momentumRatio, rangeTest}
 use Rattle.interface.specs.Calls.{inputsOf, startOf, callNumber}
 
 -- ---- gradient: the rounded scheme
@@ -51,10 +51,10 @@ unfoldable pub rangeA : Problem → Command → ℕ
 rangeA p r = sum (ceilTerms (F p) (r .row) (map (rangeY p) (p .commands)))
 
 unfoldable pub rangeB : Problem → Command → ℕ
-rangeB p r = sum (ceilTerms (F p) (r .gains) (p .inputBounds))
+rangeB p r = sum (ceilTerms (F p) (r .gains) (p .inputLimits))
 
 unfoldable pub slack : Problem → ℕ
-slack p = max (length (p .commands)) (length (p .inputBounds))
+slack p = max (length (p .commands)) (length (p .inputLimits))
 
 unfoldable pub nextE : Problem → List ℕ → Command → ℕ
 nextE p q r = min (width r) (ceil (weight (r .row) q) (F p) + slack p)
@@ -81,7 +81,7 @@ tablesNumber z s =
     ∷ check 10 (allTo (totalTest z s) n)
     ∷ check 11 (momentumRange z s)
     ∷ check 11 (momentumRatio z s)
-    ∷ check 12 (allTo (pointTest z s) n)
+    ∷ check 12 (allTo (rangeTest z s) n)
     ∷ check 12 (allTo (rowTest z s) n)
     ∷ [])
 

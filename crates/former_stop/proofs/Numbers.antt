@@ -15,7 +15,7 @@ use Rattle.image.specs.declared.Input.the-variants.{State, Target}
 use Rattle.image.specs.Order.{Check, firstFault, orElse}
 use Rattle.image.specs.Sizes.{commandCount, bodyCount, sound}
 use Rattle.image.specs.Layout.{sizesOf, problemOf}
-use Rattle.image.specs.Checks.{wordTest, boundTest, headNumber, bodyNumber}
+use Rattle.image.specs.Checks.{wordTest, limitTest, headNumber, bodyNumber}
 use Rattle.image.proofs.Ordering.{both}
 use Rattle.interface.specs.Tables.{orderTest, tableChecks, tablesNumber, imageNumber}
 use Rattle.interface.specs.Calls.{inputPasses, startOf, coldCallNumber, callNumber, coldNumber, solveNumber}
@@ -94,7 +94,7 @@ module _ (image : List ℕ) where
   unfolding bodyNumber
   body-early =
       early (allTo (wordTest z image) (bodyCount z)) 5 _ (lit≤ tt)
-      (early (allTo (boundTest State z image) (z .nx)) 5 _ (lit≤ tt) (early (allTo (boundTest Target z image) (z .nr)) 5 0 (lit≤ tt) (lit≤ tt)))
+      (early (allTo (limitTest State z image) (z .nx)) 5 _ (lit≤ tt) (early (allTo (limitTest Target z image) (z .nr)) 5 0 (lit≤ tt) (lit≤ tt)))
 
   image-now : imageNumber image ≡ withStop (canStop z image) (former.imageNumber image)
   unfolding imageNumber former.imageNumber

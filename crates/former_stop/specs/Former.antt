@@ -14,7 +14,7 @@ use Rattle.image.specs.Order.{check, firstFault, orElse}
 use Rattle.image.specs.Sizes.{commandCount}
 use Rattle.image.specs.Layout.{sizesOf, problemOf}
 use Rattle.image.specs.Checks.{headNumber, bodyNumber}
-use Rattle.interface.specs.Tables.{orderTest, symmetryTest, marginTest, totalTest, momentumRange, momentumRatio, pointTest, rowTest}
+use Rattle.interface.specs.Tables.{orderTest, symmetryTest, marginTest, totalTest, momentumRange, momentumRatio, rangeTest, rowTest}
 use Rattle.interface.specs.Calls.{coldCallNumber, callNumber}
 use Rattle.sheet.specs.Sheet.{sheetNumber, sheetImage}
 use Rattle.intake.specs.Intake.{bufferNumber}
@@ -35,7 +35,7 @@ tablesNumber z s =
     ∷ check 10 (allTo (totalTest z s) n)
     ∷ check 11 (momentumRange z s)
     ∷ check 11 (momentumRatio z s)
-    ∷ check 12 (allTo (pointTest z s) n)
+    ∷ check 12 (allTo (rangeTest z s) n)
     ∷ check 12 (allTo (rowTest z s) n)
     ∷ [])
 

@@ -4,7 +4,7 @@ ghost use Prim.Native.Nat.{_+_, _*_, _^_, _≤_, _<_, min};
 ghost use Rattle.word.specs.Format.{top};
 ghost use Rattle.gradient.specs.Index.{sumN};
 ghost use Rattle.image.specs.Sizes.{Sound, Whole, commandCount, inputCount};
-ghost use Rattle.interface.specs.Tables.{pointTest, rowTest};
+ghost use Rattle.interface.specs.Tables.{rangeTest, rowTest};
 ghost use Rattle.row_sums.specs.Terms.{RangesReady, termAt};
 ghost use Rattle.row_sums.specs.declared.Term.the-variants.{GainRange};
 use image::Input;
@@ -20,9 +20,9 @@ fn top_word(z: Sizes) -> u64
 }
 
 // Whether P and Y of command i are in the word.
-pub fn point_passes(image: &[u8], z: Sizes, i: usize) -> bool
+pub fn range_passes(image: &[u8], z: Sizes, i: usize) -> bool
     requires { ⌜ Whole z (now image) × (i < commandCount z) ⌝ }
-    ensures { λ r. ⌜ r ≡ pointTest z (now (image .entry)) i ⌝ }
+    ensures { λ r. ⌜ r ≡ rangeTest z (now (image .entry)) i ⌝ }
 {
     let most = top_word(z);
     if magnitudes::range_p(image, z, i) <= most {

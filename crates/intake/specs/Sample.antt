@@ -12,8 +12,8 @@ use Rattle.double.specs.Double.{scalable, rounded, accepted}
 use Rattle.gradient.specs.Problem.{F}
 use Rattle.gradient.specs.Bounds.{magnitude, width, weight, rangeP, rangeY, rangeA, rangeB}
 use Rattle.image.specs.Sizes.{sound}
-use Rattle.image.specs.Layout.{sizesOf, lowerAt, upperAt, momentumAt, boundAt, entryOf, commandAt, problemAt}
-use Rattle.interface.specs.Tables.{symmetryTest, othersAt, marginAt, totalAt, leastMargin, largestTotal, momentumRange, momentumRatio, pointTest, rowTest, tablesNumber}
+use Rattle.image.specs.Layout.{sizesOf, lowerAt, upperAt, momentumAt, limitAt, entryOf, commandAt, problemAt}
+use Rattle.interface.specs.Tables.{symmetryTest, othersAt, marginAt, totalAt, leastMargin, largestTotal, momentumRange, momentumRatio, rangeTest, rowTest, tablesNumber}
 use Rattle.line.specs.Line.{lineAt}
 use Rattle.frame.specs.Frame.{dueAt, headOf, total, wordOf}
 use Rattle.lines.specs.Lines.{lineFault, lineValue, lineWord}
@@ -45,9 +45,9 @@ abbrev shortCalls : List Sample
 shortCalls = sample 15 (text lines) ∷ sample 7 crossed ∷ sample 17 raised ∷ sample 12 crowded ∷ []
 
 call-numbers : map (λ (x : Sample). intakeNumber (x .sheet) 56) calls ≡ map (λ (x : Sample). x .number) calls
-unfolding isHex digitOf hexes hexAt digitByte hexDigits numberBE digitsBE bytesBE wordsOut ofBits floor scalable rounded accepted sound lineAt headOf total dueAt wordOf lineValue lineFault lineWord sheetNumber sheetWords sheetImage designNumber intakeNumber natBE wordsAt sizesOf lowerAt upperAt momentumAt boundAt entryOf commandAt problemAt symmetryTest othersAt marginAt totalAt leastMargin largestTotal momentumRange momentumRatio pointTest rowTest tablesNumber F ceil magnitude width rangeP rangeY weight rangeA rangeB
+unfolding isHex digitOf hexes hexAt digitByte hexDigits numberBE digitsBE bytesBE wordsOut ofBits floor scalable rounded accepted sound lineAt headOf total dueAt wordOf lineValue lineFault lineWord sheetNumber sheetWords sheetImage designNumber intakeNumber natBE wordsAt sizesOf lowerAt upperAt momentumAt limitAt entryOf commandAt problemAt symmetryTest othersAt marginAt totalAt leastMargin largestTotal momentumRange momentumRatio rangeTest rowTest tablesNumber F ceil magnitude width rangeP rangeY weight rangeA rangeB
 call-numbers = refl
 
 short-numbers : map (λ (x : Sample). intakeNumber (x .sheet) 55) shortCalls ≡ map (λ (x : Sample). x .number) shortCalls
-unfolding isHex digitOf hexes hexAt digitByte hexDigits numberBE digitsBE bytesBE wordsOut ofBits floor scalable rounded accepted sound lineAt headOf total dueAt wordOf lineValue lineFault lineWord sheetNumber sheetWords sheetImage designNumber intakeNumber natBE wordsAt sizesOf lowerAt upperAt momentumAt boundAt entryOf commandAt problemAt symmetryTest othersAt marginAt totalAt leastMargin largestTotal momentumRange momentumRatio pointTest rowTest tablesNumber F ceil magnitude width rangeP rangeY weight rangeA rangeB
+unfolding isHex digitOf hexes hexAt digitByte hexDigits numberBE digitsBE bytesBE wordsOut ofBits floor scalable rounded accepted sound lineAt headOf total dueAt wordOf lineValue lineFault lineWord sheetNumber sheetWords sheetImage designNumber intakeNumber natBE wordsAt sizesOf lowerAt upperAt momentumAt limitAt entryOf commandAt problemAt symmetryTest othersAt marginAt totalAt leastMargin largestTotal momentumRange momentumRatio rangeTest rowTest tablesNumber F ceil magnitude width rangeP rangeY weight rangeA rangeB
 short-numbers = refl

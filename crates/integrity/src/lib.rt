@@ -2,7 +2,7 @@
 ghost use mathlib.Core.Path.{_≡_};
 ghost use Rattle.gradient.specs.Index.{allTo};
 ghost use Rattle.image.specs.Sizes.{Whole, inputCount, bodyCount};
-ghost use Rattle.image.specs.Checks.{headNumber, wordTest, boundTest, bodyNumber};
+ghost use Rattle.image.specs.Checks.{headNumber, wordTest, limitTest, bodyNumber};
 use image::Input;
 use image::Sizes;
 
@@ -44,14 +44,14 @@ fn words_pass(image: &[u8], z: Sizes) -> bool
 }
 
 // Whether no limit of an input is negative.
-fn bounds_pass(image: &[u8], z: Sizes, v: Input) -> bool
+fn limits_pass(image: &[u8], z: Sizes, v: Input) -> bool
     requires { ⌜ Whole z (now image) ⌝ }
-    ensures { λ r. ⌜ r ≡ allTo (boundTest v z (now (image .entry))) (inputCount v z) ⌝ }
+    ensures { λ r. ⌜ r ≡ allTo (limitTest v z (now (image .entry))) (inputCount v z) ⌝ }
 {
     let count = image::input_count(z, v);
     let mut j = 0;
     while j < count {
-        if image::bound_at(image, z, v, j) < 0 {
+        if image::limit_at(image, z, v, j) < 0 {
             return false;
         }
         j += 1;
@@ -67,10 +67,10 @@ pub fn body_number(image: &[u8], z: Sizes) -> u32
     if !words_pass(image, z) {
         return 5;
     }
-    if !bounds_pass(image, z, Input::State) {
+    if !limits_pass(image, z, Input::State) {
         return 5;
     }
-    if bounds_pass(image, z, Input::Target) {
+    if limits_pass(image, z, Input::Target) {
         0
     } else {
         5

@@ -29,12 +29,12 @@ use Rattle.image.specs.declared.Sizes.{Sizes}
 use Rattle.image.specs.declared.Input.{Input}
 use Rattle.image.specs.declared.Input.the-variants.{State, Target}
 use Rattle.image.specs.Sizes.{commandCount, inputCount, bodyCount, sound, Sound, Whole}
-use Rattle.image.specs.Layout.{sizesOf, lowerAt, upperAt, problemAt, problemOf, commandAt, entryAt, entryOf, costAt, gainAt, gainRow, gainsOf, momentumAt, boundAt, boundsFrom, boundsOf}
-use Rattle.image.specs.Checks.{headNumber, bodyNumber, wordTest, boundTest}
+use Rattle.image.specs.Layout.{sizesOf, lowerAt, upperAt, problemAt, problemOf, commandAt, entryAt, entryOf, costAt, gainAt, gainRow, gainsOf, momentumAt, limitAt, limitsFrom, limitsOf}
+use Rattle.image.specs.Checks.{headNumber, bodyNumber, wordTest, limitTest}
 use Rattle.image.proofs.Ordering.{passed, both, none}
 use Rattle.image.proofs.Sized.{sound-facts, sound-format}
-use Rattle.image.proofs.Reading.{cost-word, gain-word, lower-word, upper-word, bound-word}
-use Rattle.interface.specs.Tables.{orderTest, stopTest, symmetryTest, marginTest, totalTest, momentumRange, momentumRatio, pointTest, rowTest, othersAt, marginAt, tablesNumber, imageNumber}
+use Rattle.image.proofs.Reading.{cost-word, gain-word, lower-word, upper-word, limit-word}
+use Rattle.interface.specs.Tables.{orderTest, stopTest, symmetryTest, marginTest, totalTest, momentumRange, momentumRatio, rangeTest, rowTest, othersAt, marginAt, tablesNumber, imageNumber}
 use Rattle.interface.specs.Accepted.{Accepted}
 use Rattle.interface.specs.Stop.{StopsExactly}
 
@@ -50,8 +50,8 @@ head-whole s e =
 
 pub record Passed (z : Sizes) (s : List ℕ) : Type 0 where
   pub words : allTo (wordTest z s) (bodyCount z) ≡ true
-  pub bounds : allTo (boundTest State z s) (z .nx) ≡ true
-  pub target-bounds : allTo (boundTest Target z s) (z .nr) ≡ true
+  pub limits : allTo (limitTest State z s) (z .nx) ≡ true
+  pub target-limits : allTo (limitTest Target z s) (z .nr) ≡ true
   pub orders : allTo (orderTest z s) (commandCount z) ≡ true
   pub stops : allTo (stopTest z s) (commandCount z) ≡ true
   pub symmetries : allTo (symmetryTest z s) (commandCount z) ≡ true
@@ -59,7 +59,7 @@ pub record Passed (z : Sizes) (s : List ℕ) : Type 0 where
   pub totals : allTo (totalTest z s) (commandCount z) ≡ true
   pub range : momentumRange z s ≡ true
   pub ratio : momentumRatio z s ≡ true
-  pub points : allTo (pointTest z s) (commandCount z) ≡ true
+  pub range-tests : allTo (rangeTest z s) (commandCount z) ≡ true
   pub rows : allTo (rowTest z s) (commandCount z) ≡ true
 
 pub tests-passed : (z : Sizes) (s : List ℕ) → bodyNumber z s ≡ 0 → tablesNumber z s ≡ 0 → Passed z s
@@ -67,8 +67,8 @@ unfolding bodyNumber tablesNumber
 tests-passed z s e f =
     let n = commandCount z in
     let a₁ = passed (allTo (wordTest z s) (bodyCount z)) 5 _ (lit< tt) e in
-    let a₂ = passed (allTo (boundTest State z s) (z .nx)) 5 _ (lit< tt) (a₁ .1) in
-    let a₃ = passed (allTo (boundTest Target z s) (z .nr)) 5 _ (lit< tt) (a₂ .1) in
+    let a₂ = passed (allTo (limitTest State z s) (z .nx)) 5 _ (lit< tt) (a₁ .1) in
+    let a₃ = passed (allTo (limitTest Target z s) (z .nr)) 5 _ (lit< tt) (a₂ .1) in
     let p₁ = passed (allTo (orderTest z s) n) 7 _ (lit< tt) f in
     let p₂ = passed (allTo (stopTest z s) n) 17 _ (lit< tt) (p₁ .1) in
     let p₃ = passed (allTo (symmetryTest z s) n) 8 _ (lit< tt) (p₂ .1) in
@@ -76,12 +76,12 @@ tests-passed z s e f =
     let p₅ = passed (allTo (totalTest z s) n) 10 _ (lit< tt) (p₄ .1) in
     let p₆ = passed (momentumRange z s) 11 _ (lit< tt) (p₅ .1) in
     let p₇ = passed (momentumRatio z s) 11 _ (lit< tt) (p₆ .1) in
-    let p₈ = passed (allTo (pointTest z s) n) 12 _ (lit< tt) (p₇ .1) in
+    let p₈ = passed (allTo (rangeTest z s) n) 12 _ (lit< tt) (p₇ .1) in
     let p₉ = passed (allTo (rowTest z s) n) 12 _ (lit< tt) (p₈ .1) in
     record {
       words = a₁ .0;
-      bounds = a₂ .0;
-      target-bounds = a₃ .0;
+      limits = a₂ .0;
+      target-limits = a₃ .0;
       orders = p₁ .0;
       stops = p₂ .0;
       symmetries = p₃ .0;
@@ -89,7 +89,7 @@ tests-passed z s e f =
       totals = p₅ .0;
       range = p₆ .0;
       ratio = p₇ .0;
-      points = p₈ .0;
+      range-tests = p₈ .0;
       rows = p₉ .0;
     }
 
@@ -108,14 +108,14 @@ module _ (z : Sizes) (s : List ℕ) where
   row-length i = tab-length (entryAt z s i) (commandCount z)
 
   -- of an input, and of both
-  pub bounds-count : (v : Input) → length (boundsOf v z s) ≡ inputCount v z
-  bounds-count v = length-map (wordsAt s (boundsFrom v z) (inputCount v z)) natAbs ∙ length-words-at s (boundsFrom v z) (inputCount v z)
+  pub limits-count : (v : Input) → length (limitsOf v z s) ≡ inputCount v z
+  limits-count v = length-map (wordsAt s (limitsFrom v z) (inputCount v z)) natAbs ∙ length-words-at s (limitsFrom v z) (inputCount v z)
 
-  pub input-bound-at : (v : Input) (j : ℕ) → j < inputCount v z → getD (boundsOf v z s) j 0 ≡ natAbs (boundAt v z s j)
-  unfolding boundAt
-  input-bound-at v j h =
-      map-at natAbs (wordsAt s (boundsFrom v z) (inputCount v z)) j (pos 0) 0 (rw (length-words-at s (boundsFrom v z) (inputCount v z)) h)
-      ∙ ap natAbs (getD-words-at s (boundsFrom v z) (inputCount v z) j h)
+  pub input-limit-at : (v : Input) (j : ℕ) → j < inputCount v z → getD (limitsOf v z s) j 0 ≡ natAbs (limitAt v z s j)
+  unfolding limitAt
+  input-limit-at v j h =
+      map-at natAbs (wordsAt s (limitsFrom v z) (inputCount v z)) j (pos 0) 0 (rw (length-words-at s (limitsFrom v z) (inputCount v z)) h)
+      ∙ ap natAbs (getD-words-at s (limitsFrom v z) (inputCount v z) j h)
 
   pub gains-count : (v : Input) (i : ℕ) → length (gainsOf v z s i) ≡ inputCount v z
   gains-count v i = length-words-at (gainRow v z s i) 0 (inputCount v z)
@@ -123,9 +123,9 @@ module _ (z : Sizes) (s : List ℕ) where
   pub gain-at : (v : Input) (i j : ℕ) → j < inputCount v z → getD (gainsOf v z s i) j (pos 0) ≡ gainAt v z s i j
   gain-at v i j h = getD-words-front (gainRow v z s i) (inputCount v z) j h
 
-  pub bounds-length : length (problemAt z s .inputBounds) ≡ z .nx + z .nr
+  pub limits-length : length (problemAt z s .inputLimits) ≡ z .nx + z .nr
   unfolding problemAt
-  bounds-length = omega (arith, length-append (boundsOf State z s) (boundsOf Target z s), bounds-count State, bounds-count Target)
+  limits-length = omega (arith, length-append (limitsOf State z s) (limitsOf Target z s), limits-count State, limits-count Target)
 
   pub gains-length : (i : ℕ) → length (commandAt z s i .gains) ≡ z .nx + z .nr
   unfolding commandAt
@@ -162,8 +162,8 @@ F-top b w h =
     let q : 2 ^ (b + 1) ≡ 2 ^ b * 2 = pow-add 2 b 1 in
     omega (arith, pow-pos b)
 
-ranges : (z : Sizes) (s : List ℕ) (i : ℕ) → pointTest z s i ≡ true → rowTest z s i ≡ true → RangesFit (problemAt z s) (commandAt z s i)
-unfolding pointTest rowTest problemAt
+ranges : (z : Sizes) (s : List ℕ) (i : ℕ) → rangeTest z s i ≡ true → rowTest z s i ≡ true → RangesFit (problemAt z s) (commandAt z s i)
+unfolding rangeTest rowTest problemAt
 ranges z s i e f =
     let a = both (leb (rangeP (problemAt z s) (commandAt z s i)) (top (z .w))) (leb (rangeY (problemAt z s) (commandAt z s i)) (top (z .w))) e in
     record { fitsP = leb-true _ _ (a .0); fitsY = leb-true _ _ (a .1); fitsAB = leb-true _ _ f }
@@ -200,7 +200,7 @@ module _ (z : Sizes) (s : List ℕ) (o : Sound z) (p : Passed z s) where
     row-words = tab-all1 (entryAt z s i) (commandCount z) (λ j l. entry-word i j h l);
     gains-words = all1-append (gains State) (gains Target);
     row-length = row-length z s i ∙ sym (commands-length z s);
-    gains-length = gains-length z s i ∙ sym (bounds-length z s);
+    gains-length = gains-length z s i ∙ sym (limits-length z s);
   }
     where
       gains : (v : Input) → All1 (λ (x : ℤ). natAbs x ≤ top (z .w)) (gainsOf v z s i)
@@ -212,20 +212,20 @@ module _ (z : Sizes) (s : List ℕ) (o : Sound z) (p : Passed z s) where
   unfolding F problemAt
   problem-sized = record {
     commands-most = rw (commands-length z s) (o .n-high);
-    inputs-most = omega (arith, bounds-length z s, o .nx-high, o .nr-high);
+    inputs-most = omega (arith, limits-length z s, o .nx-high, o .nr-high);
     b-least = o .b-low;
     b-most = o .b-high;
     W-least = o .b-word;
     W-most = o .w-high;
     momentum-most = momentum-most;
-    bounds-words = all1-append (bounds State) (bounds Target);
+    limits-words = all1-append (limits State) (limits Target);
     commands-sized = tab-all1 (commandAt z s) (commandCount z) (λ i h. command-sized i h);
   }
     where
-      bounds : (v : Input) → All1 (λ (b : ℕ). b ≤ top (z .w)) (boundsOf v z s)
-      bounds v =
-          at-all1 (boundsOf v z s) 0
-          (λ j l. let k : j < inputCount v z = rw (bounds-count z s v) at l in rw (input-bound-at z s v j k) (bound-word z s o (p .words) v j k))
+      limits : (v : Input) → All1 (λ (b : ℕ). b ≤ top (z .w)) (limitsOf v z s)
+      limits v =
+          at-all1 (limitsOf v z s) 0
+          (λ j l. let k : j < inputCount v z = rw (limits-count z s v) at l in rw (input-limit-at z s v j k) (limit-word z s o (p .words) v j k))
 
   problem-formatted : formatted (problemAt z s) ≡ true
   unfolding formatted problemAt
@@ -242,7 +242,7 @@ module _ (z : Sizes) (s : List ℕ) (o : Sound z) (p : Passed z s) where
   problem-headroom = at-headroom (problemAt z s) (commandAt z s 0) (λ i h. fits i (rw (commands-length z s) at h))
     where
       fits : (i : ℕ) → i < commandCount z → RangesFit (problemAt z s) (getD (problemAt z s .commands) i (commandAt z s 0))
-      fits i h = rw (command-at z s (commandAt z s 0) i h) (ranges z s i (all-at (pointTest z s) (commandCount z) i h (p .points)) (all-at (rowTest z s) (commandCount z) i h (p .rows)))
+      fits i h = rw (command-at z s (commandAt z s 0) i h) (ranges z s i (all-at (rangeTest z s) (commandCount z) i h (p .range-tests)) (all-at (rowTest z s) (commandCount z) i h (p .rows)))
 
 pub accepted : (s : List ℕ) → imageNumber s ≡ 0 → Accepted s
 unfolding imageNumber problemOf

@@ -16,13 +16,13 @@ use Rattle.image.specs.declared.Sizes.{Sizes}
 use Rattle.image.specs.declared.Input.{Input}
 use Rattle.image.specs.declared.Input.the-variants.{State, Target}
 use Rattle.image.specs.Sizes.{commandCount, inputCount}
-use Rattle.image.specs.Layout.{sizesOf, problemAt, problemOf, boundsOf}
+use Rattle.image.specs.Layout.{sizesOf, problemAt, problemOf, limitsOf}
 use Rattle.image.proofs.Ordering.{passed, both, none}
 use Rattle.interface.specs.Tables.{imageNumber}
 use Rattle.interface.specs.Calls.{valuesOf, inputsOf, startOf, valuesWithin, inputPasses, callNumber, solveNumber, coldNumber}
 use Rattle.interface.specs.Accepted.{Solvable}
 use Rattle.interface.specs.Demand.{SolveClaim}
-use Rattle.interface.proofs.Accept.{accepted, bounds-count}
+use Rattle.interface.proofs.Accept.{accepted, limits-count}
 
 -- the values of an input, and both inputs within their limits
 pub values-count : (v : Input) (z : Sizes) (values : List ℕ) → length (valuesOf v z values) ≡ inputCount v z
@@ -41,7 +41,7 @@ inputs-within : (z : Sizes) (image state target : List ℕ) → valuesWithin Sta
     → inputsWithin (problemAt z image) (inputsOf z state target) ≡ true
 unfolding inputsWithin inputsOf valuesWithin problemAt
 inputs-within z image state target h k =
-    rw (every2-append _ (valuesOf State z state) (valuesOf Target z target) (boundsOf State z image) (boundsOf Target z image) (values-count State z state ∙ sym (bounds-count z image State)), h)
+    rw (every2-append _ (valuesOf State z state) (valuesOf Target z target) (limitsOf State z image) (limitsOf Target z image) (values-count State z state ∙ sym (limits-count z image State)), h)
     k
 
 -- number 0 of a solve: what its code requires, and the length of the answer

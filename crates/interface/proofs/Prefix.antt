@@ -28,12 +28,12 @@ use Rattle.image.specs.declared.Input.{Input}
 use Rattle.image.specs.declared.Input.the-variants.{State, Target}
 use Rattle.image.specs.Order.{orElse}
 use Rattle.image.specs.Sizes.{between, sound, commandCount, inputCount, bodyCount}
-use Rattle.image.specs.Layout.{sizesOf, problemOf, costAt, costRow, gainRow, lowerAt, upperAt, momentumAt, boundAt, entryOf, commandAt, problemAt, lowerPlace, upperPlace, momentumPlace, boundsFrom, boundsOf, costOffset, gainOffset}
-use Rattle.image.specs.Checks.{headNumber, wordTest, boundTest, bodyNumber}
+use Rattle.image.specs.Layout.{sizesOf, problemOf, costAt, costRow, gainRow, lowerAt, upperAt, momentumAt, limitAt, entryOf, commandAt, problemAt, lowerPlace, upperPlace, momentumPlace, limitsFrom, limitsOf, costOffset, gainOffset}
+use Rattle.image.specs.Checks.{headNumber, wordTest, limitTest, bodyNumber}
 use Rattle.image.proofs.Ordering.{passed, both, none}
 use Rattle.interface.specs.Calls.{valuesOf, inputsOf, startOf, valuesWithin, callNumber, solveNumber, solveAnswer, answerAfter, commandsAfter, boundsAfter}
 use Rattle.interface.specs.Demand.{withSweeps, Prefix}
-use Rattle.interface.specs.Tables.{orderTest, stopTest, symmetryTest, marginTest, totalTest, momentumRange, momentumRatio, pointTest, rowTest, othersAt, marginAt, totalAt, leastTo, largestTo, leastMargin, largestTotal, eqZ, tablesNumber, imageNumber}
+use Rattle.interface.specs.Tables.{orderTest, stopTest, symmetryTest, marginTest, totalTest, momentumRange, momentumRatio, rangeTest, rowTest, othersAt, marginAt, totalAt, leastTo, largestTo, leastMargin, largestTotal, eqZ, tablesNumber, imageNumber}
 use Rattle.interface.proofs.Accept.{accepted}
 
 least-cong : (f g : ℕ → ℤ) (n : ℕ) → ((i : ℕ) → f i ≡ g i) → leastTo f n ≡ leastTo g n
@@ -78,16 +78,16 @@ module _ (z : Sizes) (s t : List ℕ) (e : drop 32 s ≡ drop 32 t) where
   unfolding momentumAt
   momentum-same = word-same (momentumPlace z) (omega arith)
 
-  behind-head : (v : Input) → 32 ≤ boundsFrom v z
+  behind-head : (v : Input) → 32 ≤ limitsFrom v z
   behind-head State = omega arith
   behind-head Target = omega arith
 
-  bound-same : (v : Input) (j : ℕ) → boundAt v z s j ≡ boundAt v z t j
-  unfolding boundAt
-  bound-same v j = word-same (boundsFrom v z + 4 * j) (omega (arith, behind-head v))
+  limit-same : (v : Input) (j : ℕ) → limitAt v z s j ≡ limitAt v z t j
+  unfolding limitAt
+  limit-same v j = word-same (limitsFrom v z + 4 * j) (omega (arith, behind-head v))
 
-  bounds-same : (v : Input) → boundsOf v z s ≡ boundsOf v z t
-  bounds-same v = ap (map natAbs) (words-same (inputCount v z) (boundsFrom v z) (behind-head v))
+  limits-same : (v : Input) → limitsOf v z s ≡ limitsOf v z t
+  limits-same v = ap (map natAbs) (words-same (inputCount v z) (limitsFrom v z) (behind-head v))
     where
       words-same : (n at : ℕ) → 32 ≤ at → wordsAt s at n ≡ wordsAt t at n
       words-same n at h = ext-getD (pos 0) (wordsAt s at n) (wordsAt t at n) (length-words-at s at n ∙ sym (length-words-at t at n)) (λ i l. let k : i < n = rw (length-words-at s at n) at l in getD-words-at s at n i k ∙ word-same (at + 4 * i) (omega arith) ∙ sym (getD-words-at t at n i k))
@@ -106,7 +106,7 @@ module _ (z : Sizes) (s t : List ℕ) (e : drop 32 s ≡ drop 32 t) where
 
   pub problem-same : problemAt z s ≡ problemAt z t
   unfolding problemAt
-  problem-same = rw (momentum-same, bounds-same State, bounds-same Target, tab-cong (commandAt z s) (commandAt z t) (commandCount z) (λ i h. command-same i))
+  problem-same = rw (momentum-same, limits-same State, limits-same Target, tab-cong (commandAt z s) (commandAt z t) (commandCount z) (λ i h. command-same i))
 
   others-same : (i : ℕ) → othersAt z s i ≡ othersAt z t i
   unfolding othersAt
@@ -137,9 +137,9 @@ module _ (z : Sizes) (s t : List ℕ) (e : drop 32 s ≡ drop 32 t) where
         largest-cong (totalAt z s) (totalAt z t) (commandCount z - 1) total-same,
       )
 
-  point-same : (i : ℕ) → pointTest z s i ≡ pointTest z t i
-  unfolding pointTest
-  point-same i = rw (problem-same, command-same i)
+  range-same : (i : ℕ) → rangeTest z s i ≡ rangeTest z t i
+  unfolding rangeTest
+  range-same i = rw (problem-same, command-same i)
 
   row-same : (i : ℕ) → rowTest z s i ≡ rowTest z t i
   unfolding rowTest
@@ -150,8 +150,8 @@ module _ (z : Sizes) (s t : List ℕ) (e : drop 32 s ≡ drop 32 t) where
   body-number-same =
       rw (
         all-cong (wordTest z s) (wordTest z t) (bodyCount z) (λ i l. ap (inWord (z .w)) (word-same (4 * (8 + i)) (omega arith))),
-        all-cong (boundTest State z s) (boundTest State z t) (z .nx) (λ j l. ap (leZ (pos 0)) (bound-same State j)),
-        all-cong (boundTest Target z s) (boundTest Target z t) (z .nr) (λ j l. ap (leZ (pos 0)) (bound-same Target j)),
+        all-cong (limitTest State z s) (limitTest State z t) (z .nx) (λ j l. ap (leZ (pos 0)) (limit-same State j)),
+        all-cong (limitTest Target z s) (limitTest Target z t) (z .nr) (λ j l. ap (leZ (pos 0)) (limit-same Target j)),
       )
 
   pub tables-number-same : tablesNumber z s ≡ tablesNumber z t
@@ -166,7 +166,7 @@ module _ (z : Sizes) (s t : List ℕ) (e : drop 32 s ≡ drop 32 t) where
         all-cong (totalTest z s) (totalTest z t) n (λ i l. ap (λ (x : ℤ). leZ x (pos (2 ^ z .b))) (total-same i)),
         range-same,
         ratio-same,
-        all-cong (pointTest z s) (pointTest z t) n (λ i l. point-same i),
+        all-cong (rangeTest z s) (rangeTest z t) n (λ i l. range-same i),
         all-cong (rowTest z s) (rowTest z t) n (λ i l. row-same i),
       )
 
@@ -188,11 +188,11 @@ unfolding resized problemAt commandAt lowerAt upperAt momentumAt withIterations
 iterations-only k z s = refl
 
 body-sweeps : (k : ℕ) (z : Sizes) (s : List ℕ) → bodyNumber (resized k z) s ≡ bodyNumber z s
-unfolding resized bodyNumber boundAt
+unfolding resized bodyNumber limitAt
 body-sweeps k z s = refl
 
 tables-sweeps : (k : ℕ) (z : Sizes) (s : List ℕ) → tablesNumber (resized k z) s ≡ tablesNumber z s
-unfolding resized tablesNumber lowerAt upperAt momentumAt symmetryTest othersAt marginAt totalAt leastMargin largestTotal momentumRange momentumRatio pointTest rowTest problemAt commandAt F rangeP rangeY rangeA rangeB
+unfolding resized tablesNumber lowerAt upperAt momentumAt symmetryTest othersAt marginAt totalAt leastMargin largestTotal momentumRange momentumRatio rangeTest rowTest problemAt commandAt F rangeP rangeY rangeA rangeB
 tables-sweeps k z s = refl
 
 values-resized : (k : ℕ) (v : Input) (z : Sizes) (values : List ℕ) → valuesOf v (resized k z) values ≡ valuesOf v z values
@@ -200,10 +200,10 @@ unfolding resized valuesOf
 values-resized k State z values = refl
 values-resized k Target z values = refl
 
-bounds-resized : (k : ℕ) (v : Input) (z : Sizes) (s : List ℕ) → boundsOf v (resized k z) s ≡ boundsOf v z s
+limits-resized : (k : ℕ) (v : Input) (z : Sizes) (s : List ℕ) → limitsOf v (resized k z) s ≡ limitsOf v z s
 unfolding resized
-bounds-resized k State z s = refl
-bounds-resized k Target z s = refl
+limits-resized k State z s = refl
+limits-resized k Target z s = refl
 
 start-kept : (k : ℕ) (z : Sizes) (start : List ℕ) → startOf (resized k z) start ≡ startOf z start
 unfolding resized startOf
@@ -293,7 +293,7 @@ module _ (s : List ℕ) (k : ℕ) (long : 32 ≤ length s) (few : k ≤ 400) whe
   within-kept : (v : Input) (values : List ℕ) → valuesWithin v (resized k (sizesOf s)) (withSweeps k s) values ≡ valuesWithin v (sizesOf s) s values
   unfolding valuesWithin
   within-kept v values =
-      rw (bounds-same (resized k (sizesOf s)) (withSweeps k s) s body-kept v, bounds-resized k v (sizesOf s) s, values-resized k v (sizesOf s) values)
+      rw (limits-same (resized k (sizesOf s)) (withSweeps k s) s body-kept v, limits-resized k v (sizesOf s) s, values-resized k v (sizesOf s) values)
 
   call-kept : (state target start : List ℕ) (room : ℕ) → callNumber (withSweeps k s) state target start room ≡ callNumber s state target start room
   unfolding callNumber resized

@@ -25,7 +25,7 @@ use Rattle.image.specs.declared.Sizes.{Sizes}
 use Rattle.image.specs.Sizes.{commandCount}
 use Rattle.image.specs.Layout.{sizesOf, lowerAt, upperAt, commandAt, problemAt, problemOf}
 use Rattle.image.proofs.Ordering.{both}
-use Rattle.interface.specs.Tables.{stopTest, pointTest, imageNumber}
+use Rattle.interface.specs.Tables.{stopTest, rangeTest, imageNumber}
 use Rattle.interface.specs.Calls.{startOf, coldAnswer}
 use Rattle.interface.specs.Stop.{AllZeros, AcceptedStart, YDecides}
 use Rattle.interface.proofs.Accept.{accepted, commands-length}
@@ -77,7 +77,7 @@ module _ (z : Sizes) (s : List ℕ) (i : ℕ) (e : stopTest z s i ≡ true) wher
       record { above = leZ-yes (of-true (h .0)); below = leZ-yes (of-true (h .1)) }
 
   pub y-decides : YDecides z s i
-  unfolding pointTest
+  unfolding rangeTest
   y-decides = by (leb (rangeY p r) (top (z .w))) refl
     where
       by : (t : Bool) → leb (rangeY p r) (top (z .w)) ≡ t → leb (rangeP p r) (top (z .w)) && t ≡ t

@@ -15,7 +15,7 @@ use Rattle.image.specs.declared.Input.{Input}
 use Rattle.image.specs.declared.Input.the-variants.{State, Target}
 use Rattle.image.specs.Order.{check, firstFault, orElse}
 use Rattle.image.specs.Sizes.{commandCount, inputCount}
-use Rattle.image.specs.Layout.{sizesOf, problemOf, boundsOf}
+use Rattle.image.specs.Layout.{sizesOf, problemOf, limitsOf}
 use Rattle.interface.specs.Tables.{imageNumber}
 
 -- "state and start are big-endian words as in the image", and so is a target: the values of an input
@@ -44,7 +44,7 @@ coldAnswer image = wordsOut (coldStart (problemOf image))
 -- ---- a solve
 -- no value of an input is "beyond plus or minus its limit"
 unfoldable pub valuesWithin : Input → Sizes → List ℕ → List ℕ → Bool
-valuesWithin v z image values = every2 (λ (x : ℤ) (b : ℕ). leb (natAbs x) b) (valuesOf v z values) (boundsOf v z image)
+valuesWithin v z image values = every2 (λ (x : ℤ) (b : ℕ). leb (natAbs x) b) (valuesOf v z values) (limitsOf v z image)
 
 -- 13 of a state, 16 of a target: "not nx words", or "not nr words", or a value beyond its limit
 abbrev pub inputPasses : Input → Sizes → List ℕ → List ℕ → Bool

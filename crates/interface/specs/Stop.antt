@@ -13,7 +13,7 @@ use Rattle.gradient.specs.Demand.{startWithin}
 use Rattle.image.specs.declared.Sizes.{Sizes}
 use Rattle.image.specs.Sizes.{commandCount}
 use Rattle.image.specs.Layout.{sizesOf, commandAt, problemAt, problemOf}
-use Rattle.interface.specs.Tables.{stopTest, pointTest}
+use Rattle.interface.specs.Tables.{stopTest, rangeTest}
 use Rattle.interface.specs.Calls.{startOf, coldAnswer}
 
 -- "a drive must always be able to command zero", "zero at a limit is allowed": 17 passes exactly where all zeros are within the limits, as
@@ -32,4 +32,4 @@ pub record AcceptedStart (image start : List ℕ) : Type 0 where
 
 -- of P and Y in 12, Y alone decides
 abbrev pub YDecides : Sizes → List ℕ → ℕ → Type 0
-YDecides z s i = pointTest z s i ≡ leb (rangeY (problemAt z s) (commandAt z s i)) (top (z .w))
+YDecides z s i = rangeTest z s i ≡ leb (rangeY (problemAt z s) (commandAt z s i)) (top (z .w))

@@ -84,8 +84,8 @@ momentumRatio z s =
     leZ ((f -ℤ m) *ℤ (f -ℤ m) *ℤ largestTotal z s) ((f +ℤ m) *ℤ (f +ℤ m) *ℤ leastMargin z s)
 
 -- ---- 12: "P, Y and A + B are at most top"
-unfoldable pub pointTest : Sizes → List ℕ → ℕ → Bool
-pointTest z s i = leb (rangeP (problemAt z s) (commandAt z s i)) (top (z .w)) && leb (rangeY (problemAt z s) (commandAt z s i)) (top (z .w))
+unfoldable pub rangeTest : Sizes → List ℕ → ℕ → Bool
+rangeTest z s i = leb (rangeP (problemAt z s) (commandAt z s i)) (top (z .w)) && leb (rangeY (problemAt z s) (commandAt z s i)) (top (z .w))
 
 unfoldable pub rowTest : Sizes → List ℕ → ℕ → Bool
 rowTest z s i = leb (rangeA (problemAt z s) (commandAt z s i) + rangeB (problemAt z s) (commandAt z s i)) (top (z .w))
@@ -102,7 +102,7 @@ tableChecks z s =
     ∷ check 10 (allTo (totalTest z s) n)
     ∷ check 11 (momentumRange z s)
     ∷ check 11 (momentumRatio z s)
-    ∷ check 12 (allTo (pointTest z s) n)
+    ∷ check 12 (allTo (rangeTest z s) n)
     ∷ check 12 (allTo (rowTest z s) n)
     ∷ []
 

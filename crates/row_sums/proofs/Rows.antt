@@ -21,11 +21,11 @@ use Rattle.image.specs.declared.Sizes.{Sizes}
 use Rattle.image.specs.declared.Input.{Input}
 use Rattle.image.specs.declared.Input.the-variants.{State, Target}
 use Rattle.image.specs.Sizes.{commandCount, inputCount, Sound}
-use Rattle.image.specs.Layout.{costOffset, gainOffset, entryAt, gainsOf, boundsOf, commandAt, problemAt}
+use Rattle.image.specs.Layout.{costOffset, gainOffset, entryAt, gainsOf, limitsOf, commandAt, problemAt}
 use Rattle.image.proofs.Sized.{input-most, row-end}
-use Rattle.interface.specs.Tables.{pointTest}
-use Rattle.interface.proofs.Accept.{commands-length, command-at, bounds-count, input-bound-at, row-length, gains-count, gain-at}
-use Rattle.row_sums.specs.Terms.{termAt, termRow, termCount, PointsPass, TermsReady}
+use Rattle.interface.specs.Tables.{rangeTest}
+use Rattle.interface.proofs.Accept.{commands-length, command-at, limits-count, input-limit-at, row-length, gains-count, gain-at}
+use Rattle.row_sums.specs.Terms.{termAt, termRow, termCount, RangesPass, TermsReady}
 use Rattle.row_sums.specs.declared.Term.{Term}
 use Rattle.row_sums.specs.declared.Term.the-variants.{Range, GainRange}
 
@@ -47,12 +47,12 @@ count-most Range z h = h .n-high
 count-most (GainRange v) z h = omega (arith, input-most v z h)
 
 -- Y is in the word
-pub point-most : (z : Sizes) (s : List ℕ) (j : ℕ) → Sound z → PointsPass z s → j < commandCount z → rangeY (problemAt z s) (commandAt z s j) ≤ 2 ^ 31
-unfolding pointTest
-point-most z s j sized points h =
+pub range-most : (z : Sizes) (s : List ℕ) (j : ℕ) → Sound z → RangesPass z s → j < commandCount z → rangeY (problemAt z s) (commandAt z s j) ≤ 2 ^ 31
+unfolding rangeTest
+range-most z s j sized passed h =
     let r = commandAt z s j in
     let p = problemAt z s in
-    let t = both (leb (rangeP p r) (top (z .w))) (leb (rangeY p r) (top (z .w))) (all-at (pointTest z s) (commandCount z) j h points) in
+    let t = both (leb (rangeP p r) (top (z .w))) (leb (rangeY p r) (top (z .w))) (all-at (rangeTest z s) (commandCount z) j h passed) in
     omega (arith, leb-true (rangeY p r) (top (z .w)) (t .1), top-high (z .w) (sized .w-high))
 
 -- ---- the sums of a row as sums of its terms, A and B divided once
@@ -72,15 +72,15 @@ module _ (z : Sizes) (s : List ℕ) (i : ℕ) where
       ∙ rw F-is (ap (λ (k : ℕ). ceil k (2 ^ z .b)) (sumN-cong _ _ (commandCount z) (λ j l. rw (entry-is j l, command-at z s (commandAt z s i) j l))))
 
   -- what an input adds to B's sum, and B
-  input-terms : (v : Input) → weight (gainsOf v z s i) (boundsOf v z s) ≡ sumN (termAt (GainRange v) z s i) (inputCount v z)
+  input-terms : (v : Input) → weight (gainsOf v z s i) (limitsOf v z s) ≡ sumN (termAt (GainRange v) z s i) (inputCount v z)
   unfolding termAt
   input-terms v =
-      weight-sum (gainsOf v z s i) (boundsOf v z s) (inputCount v z) (gains-count z s v i) (bounds-count z s v)
-      ∙ sumN-cong _ _ (inputCount v z) (λ j l. rw (gain-at z s v i j l, input-bound-at z s v j l))
+      weight-sum (gainsOf v z s i) (limitsOf v z s) (inputCount v z) (gains-count z s v i) (limits-count z s v)
+      ∙ sumN-cong _ _ (inputCount v z) (λ j l. rw (gain-at z s v i j l, input-limit-at z s v j l))
 
   pub gain-terms : rangeB (problemAt z s) (commandAt z s i) ≡ ceil (sumN (termAt (GainRange State) z s i) (z .nx) + sumN (termAt (GainRange Target) z s i) (z .nr)) (2 ^ z .b)
   unfolding rangeB F problemAt commandAt
   gain-terms =
       ap (λ (k : ℕ). ceil k (2 ^ z .b))
-      (weight-append (gainsOf State z s i) (gainsOf Target z s i) (boundsOf State z s) (boundsOf Target z s) (gains-count z s State i ∙ sym (bounds-count z s State))
+      (weight-append (gainsOf State z s i) (gainsOf Target z s i) (limitsOf State z s) (limitsOf Target z s) (gains-count z s State i ∙ sym (limits-count z s State))
       ∙ rw (input-terms State, input-terms Target))

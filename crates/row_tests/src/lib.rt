@@ -7,7 +7,7 @@ ghost use Rattle.gradient.specs.Index.{allTo};
 ghost use Rattle.image.specs.Sizes.{Whole, commandCount};
 ghost use Rattle.image.specs.Layout.{lowerAt, upperAt};
 ghost use Rattle.interface.specs.Tables.{rowTest};
-ghost use Rattle.row_sums.specs.Terms.{PointsPass};
+ghost use Rattle.row_sums.specs.Terms.{RangesPass};
 ghost use Rattle.row_tests.specs.Tests.{testAt};
 use image::Sizes;
 
@@ -16,7 +16,7 @@ pub enum Test {
     Ordered,
     Stoppable,
     Symmetric,
-    Point,
+    Ranged,
 }
 
 // Whether x is within the limits of command k: 17 of zero, 14 of a start.
@@ -39,7 +39,7 @@ fn row_test(image: &[u8], z: Sizes, t: Test, i: usize) -> bool
         Test::Ordered => image::lower_at(image, z, i) <= image::upper_at(image, z, i),
         Test::Stoppable => is_inside(image, z, i, 0),
         Test::Symmetric => dominance::is_symmetric(image, z, i),
-        Test::Point => headroom::point_passes(image, z, i),
+        Test::Ranged => headroom::range_passes(image, z, i),
     }
 }
 
@@ -61,7 +61,7 @@ pub fn rows_pass(image: &[u8], z: Sizes, t: Test) -> bool
 
 // Whether each row passes the second test of 12: A + B is in the word. Every Y is worked out once.
 pub fn sums_pass(image: &[u8], z: Sizes) -> bool
-    requires { ⌜ Whole z (now image) × PointsPass z (now image) ⌝ }
+    requires { ⌜ Whole z (now image) × RangesPass z (now image) ⌝ }
     ensures { λ r. ⌜ r ≡ allTo (rowTest z (now (image .entry))) (commandCount z) ⌝ }
 {
     let n = z.nu * z.steps;

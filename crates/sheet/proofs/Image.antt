@@ -16,8 +16,8 @@ use Rattle.word.proofs.Words.{length-words, word-of-words, nat-of-words}
 use Rattle.gradient.specs.Index.{tab, allTo}
 use Rattle.gradient.proofs.Tests.{all-of}
 use Rattle.image.specs.Sizes.{commandCount, inputCount, bodyCount, sound, Sound, Whole}
-use Rattle.image.specs.Layout.{sizesOf, boundAt, boundPlace, boundsFrom, targetBoundPlace}
-use Rattle.image.specs.Checks.{headNumber, bodyNumber, wordTest, boundTest}
+use Rattle.image.specs.Layout.{sizesOf, limitAt, stateLimitPlace, limitsFrom, targetLimitPlace}
+use Rattle.image.specs.Checks.{headNumber, bodyNumber, wordTest, limitTest}
 use Rattle.image.specs.declared.Sizes.{Sizes}
 use Rattle.image.specs.declared.Input.{Input}
 use Rattle.image.specs.declared.Input.the-variants.{State, Target}
@@ -68,25 +68,25 @@ module _ (z : Sizes) (s : List ℕ) (o : Sound z) where
   line-limit : (i at : ℕ) → i < bodyCount z → isInputLimit (dueAt z i .kind) ≡ true → at ≡ 4 * (8 + i) → leZ (pos 0) (wordAt image at) ≡ true
   line-limit i at h k e = rw (e, line-word i h) (input-limit z s i k)
 
-  line-bounds : (v : Input) → allTo (boundTest v z image) (inputCount v z) ≡ true
-  unfolding boundAt
-  line-bounds v = all-of (boundTest v z image) (inputCount v z) (λ j h. at v j h)
+  line-limits : (v : Input) → allTo (limitTest v z image) (inputCount v z) ≡ true
+  unfolding limitAt
+  line-limits v = all-of (limitTest v z image) (inputCount v z) (λ j h. at v j h)
     where
-      at : (v : Input) (j : ℕ) → j < inputCount v z → leZ (pos 0) (wordAt image (boundsFrom v z + 4 * j)) ≡ true
+      at : (v : Input) (j : ℕ) → j < inputCount v z → leZ (pos 0) (wordAt image (limitsFrom v z + 4 * j)) ≡ true
       at State j h =
           let n = commandCount z in
           let i = n * n + n * z .nx + 2 * n + 1 + j in
-          line-limit i (boundPlace z + 4 * j) (omega arith)
+          line-limit i (stateLimitPlace z + 4 * j) (omega arith)
           (ap (λ (d : Due). isInputLimit (d .kind)) (sym (due-7 z i (omega arith) (omega arith) (omega arith) (omega arith) (omega arith) (omega arith)))) (omega arith)
       at Target j h =
           let n = commandCount z in
           let i = n * n + n * z .nx + 2 * n + 1 + z .nx + n * z .nr + j in
-          line-limit i (targetBoundPlace z + 4 * j) (omega arith)
+          line-limit i (targetLimitPlace z + 4 * j) (omega arith)
           (ap (λ (d : Due). isInputLimit (d .kind)) (sym (due-9 z i (omega arith) (omega arith) (omega arith) (omega arith) (omega arith) (omega arith) (omega arith) (omega (arith, total-is z))))) (omega arith)
 
   line-body : bodyNumber z image ≡ 0
   unfolding bodyNumber
-  line-body = rw (line-words, line-bounds State, line-bounds Target)
+  line-body = rw (line-words, line-limits State, line-limits Target)
 
 -- ---- the image of a sheet that passes
 module _ (s : List ℕ) (p : Passing s) where

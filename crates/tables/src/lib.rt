@@ -32,7 +32,7 @@ pub fn tables_number(image: &[u8], z: Sizes) -> u32
     if !momentum::momentum_passes(image, z, x) {
         return 11;
     }
-    if !row_tests::rows_pass(image, z, Test::Point) {
+    if !row_tests::rows_pass(image, z, Test::Ranged) {
         return 12;
     }
     if row_tests::sums_pass(image, z) {

@@ -11,7 +11,7 @@ use Rattle.word.specs.Word.{wordAt}
 use Rattle.gradient.specs.Index.{allTo}
 use Rattle.gradient.proofs.Tests.{all-fails}
 use Rattle.image.specs.Sizes.{inputCount}
-use Rattle.image.specs.Layout.{boundAt}
+use Rattle.image.specs.Layout.{limitAt}
 use Rattle.image.proofs.Sized.{input-most}
 use Rattle.calls.proofs.Within.{valueTest, values-to}
 use Rattle.calls.proofs.values_pass.Statement.{statement}
@@ -31,8 +31,8 @@ module _ (c : tie.After-size2 Inv-loop μ-loop) where
   abbrev j : ℕ
   j = c .before .before .before .before .before .loop .j
 
-  limit : c .before .before .size .result ≡ natAbs (boundAt (a .args .v) (a .args .z) (a .args .image .now) j)
-  limit = let b = c .before .before .before .bound-at in (rw (back (b .result) (b .ok)) at (c .before .before .size .ensures .0)) ∙ ap natAbs (b .ensures .0)
+  limit : c .before .before .size .result ≡ natAbs (limitAt (a .args .v) (a .args .z) (a .args .image .now) j)
+  limit = let b = c .before .before .before .limit-at in (rw (back (b .result) (b .ok)) at (c .before .before .size .ensures .0)) ∙ ap natAbs (b .ensures .0)
 
   value : c .size2 .result ≡ natAbs (wordAt (a .args .values .now) (4 * j))
   value = let w = c .before .word-at in (rw (back (w .result) (w .ok)) at (c .size2 .ensures .0)) ∙ ap natAbs (w .ensures .0)
@@ -47,11 +47,11 @@ input-count-requires c κs = tt
 loop-holds : tie.Need-loop-holds Inv-loop μ-loop
 loop-holds c = (omega arith, refl)
 
-bound-at-requires : tie.Need-bound-at-requires Inv-loop μ-loop
-bound-at-requires c κs = (c .before .before .before .before .before .pre .0, omega (arith, c .before .before .input-count .ensures))
+limit-at-requires : tie.Need-limit-at-requires Inv-loop μ-loop
+limit-at-requires c κs = (c .before .before .before .before .before .pre .0, omega (arith, c .before .before .input-count .ensures))
 
 size-requires : tie.Need-size-requires Inv-loop μ-loop
-size-requires c κs = rw (back (c .bound-at .result) (c .bound-at .ok)) (c .bound-at .ensures .1)
+size-requires c κs = rw (back (c .limit-at .result) (c .limit-at .ok)) (c .limit-at .ensures .1)
 
 mul-word-at : tie.Need-mul-word-at Inv-loop μ-loop
 mul-word-at c = omega (arith, small (c .before .before .before .before))
@@ -69,7 +69,7 @@ returns c =
     let t = a d .args .values .now in
     let z = a d .args .z in
     let v = a d .args .v in
-    sym (values-to v z s t ∙ all-fails (valueTest v z s t) (inputCount v z) (j d) (omega (arith, d .before .before .before .before .before .before .input-count .ensures)) (lt-leb (natAbs (wordAt t (4 * j d))) (natAbs (boundAt v z s (j d))) (omega (arith, limit d, value d))))
+    sym (values-to v z s t ∙ all-fails (valueTest v z s t) (inputCount v z) (j d) (omega (arith, d .before .before .before .before .before .before .input-count .ensures)) (lt-leb (natAbs (wordAt t (4 * j d))) (natAbs (limitAt v z s (j d))) (omega (arith, limit d, value d))))
 
 add-j : tie.Need-add-j Inv-loop μ-loop
 add-j c = omega (arith, small (c .before .before .before .before .before .before .before))
@@ -84,7 +84,7 @@ loop-again c =
     let t = a d .args .values .now in
     let z = a d .args .z in
     let v = a d .args .v in
-    (omega arith, rw (add-one (j d), d .before .before .before .before .before .loop .inv .1) (le-leb (natAbs (wordAt t (4 * j d))) (natAbs (boundAt v z s (j d))) (omega (arith, limit d, value d))))
+    (omega arith, rw (add-one (j d), d .before .before .before .before .before .loop .inv .1) (le-leb (natAbs (wordAt t (4 * j d))) (natAbs (limitAt v z s (j d))) (omega (arith, limit d, value d))))
 
 returns-2 : tie.Need-returns-2 Inv-loop μ-loop
 returns-2 c =
@@ -101,7 +101,7 @@ values-pass-spec =
     μ-loop
     input-count-requires
     loop-holds
-    bound-at-requires
+    limit-at-requires
     size-requires
     mul-word-at
     word-at-requires

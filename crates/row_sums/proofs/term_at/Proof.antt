@@ -12,7 +12,7 @@ use Rattle.image.specs.Layout.{entryOf, entryAt, gainAt, commandAt, problemAt}
 use Rattle.row_sums.specs.Terms.{termAt, termRow, termCount, TermsReady}
 use Rattle.row_sums.specs.declared.Term.{Term}
 use Rattle.row_sums.specs.declared.Term.the-variants.{Range, GainRange}
-use Rattle.row_sums.proofs.Rows.{term-end, point-most}
+use Rattle.row_sums.proofs.Rows.{term-end, range-most}
 use borrow.Author.Needs.{needs}
 use Rattle.row_sums.proofs.term_at.Statement.{statement}
 use Rattle.row_sums.proofs.term_at.Tie as tie
@@ -62,15 +62,15 @@ scaled-requires c κs =
     let r = range-ready d in
     rw (back (x .result) (x .ok)) (record {
       factor = x .ensures .1;
-      most = rw (range-is d) (point-most (a .args .z) (a .args .image .now) (a .args .j) (r .0 .ready .whole .sizes) (r .0 .ready .points) (r .1));
+      most = rw (range-is d) (range-most (a .args .z) (a .args .image .now) (a .args .j) (r .0 .ready .whole .sizes) (r .0 .ready .passed) (r .1));
     })
 
 enum-known-t : tie.Need-enum-known-t
 enum-known-t c = search needs
 
-bound-at-requires : tie.Need-bound-at-requires
+limit-at-requires : tie.Need-limit-at-requires
 unfolding termCount
-bound-at-requires c κs =
+limit-at-requires c κs =
     let r = gain-ready c in
     (r .0 .ready .whole, r .1)
 
@@ -107,7 +107,7 @@ returns-2 c =
     let d = c .before .before .before .before in
     let a = d .before .before .before .before .before .args in
     let w = c .before .word-at in
-    let b = c .before .before .before .bound-at in
+    let b = c .before .before .before .limit-at in
     let e : w .result ≡ gainAt (d .before .t .given .0 .0) (a .z) (a .image .now) (a .i) (a .j) = w .ensures .0 ∙ ap (λ (l : List ℕ). wordAt l (4 * a .j)) (gain-ready d .0 .part) in
     let q = rw (back (w .result) (w .ok)) at (c .scaled2 .ensures .0) in
     let m = rw (back (b .result) (b .ok)) at (c .before .before .size .ensures .0) in
@@ -123,7 +123,7 @@ term-at-spec =
     element-copy-out-scaled
     scaled-requires
     enum-known-t
-    bound-at-requires
+    limit-at-requires
     size-requires
     mul-word-at
     word-at-requires

@@ -32,8 +32,8 @@ is-symmetric-requires c κs = search needs
 enum-told-4 : tie.Need-enum-told-4
 enum-told-4 c = search needs
 
-point-passes-requires : tie.Need-point-passes-requires
-point-passes-requires c κs = search needs
+range-passes-requires : tie.Need-range-passes-requires
+range-passes-requires c κs = search needs
 
 returns : tie.Need-returns
 unfolding testAt
@@ -52,7 +52,7 @@ returns-3 c = rw (c .before .enum-told3 .given .1) (c .is-symmetric .ensures)
 
 returns-4 : tie.Need-returns-4
 unfolding testAt
-returns-4 c = rw (c .before .enum-told4 .given .1) (c .point-passes .ensures)
+returns-4 c = rw (c .before .enum-told4 .given .1) (c .range-passes .ensures)
 
 pub row-test-spec : {M : Type 1} → statement M
 row-test-spec =
@@ -66,7 +66,7 @@ row-test-spec =
     enum-told-3
     is-symmetric-requires
     enum-told-4
-    point-passes-requires
+    range-passes-requires
     returns
     returns-2
     returns-3

@@ -30,7 +30,7 @@ loop-holds c = (omega arith, refl)
 row-passes-requires : tie.Need-row-passes-requires Inv-loop μ-loop
 row-passes-requires c κs =
     let a = c .before .before .before .before .before .before in
-    (record { whole = a .pre .0; points = a .pre .1; ranges = c .before .before .before .ranges-y .ensures }, c .before .loop-test .taken)
+    (record { whole = a .pre .0; passed = a .pre .1; ranges = c .before .before .before .ranges-y .ensures }, c .before .loop-test .taken)
 
 returns : tie.Need-returns Inv-loop μ-loop
 returns c =

@@ -15,7 +15,7 @@ use Rattle.gradient.specs.Index.{allTo}
 use Rattle.image.specs.declared.Sizes.{Sizes}
 use Rattle.image.specs.Order.{firstFault}
 use Rattle.image.specs.Sizes.{commandCount}
-use Rattle.interface.specs.Tables.{orderTest, stopTest, symmetryTest, marginTest, totalTest, momentumRange, momentumRatio, pointTest, tableChecks, tablesNumber}
+use Rattle.interface.specs.Tables.{orderTest, stopTest, symmetryTest, marginTest, totalTest, momentumRange, momentumRatio, rangeTest, tableChecks, tablesNumber}
 use Rattle.interface.proofs.Extremes.{margins-least, totals-largest}
 use Rattle.row_tests.specs.Tests.{testAt}
 use borrow.Author.Needs.{needs}
@@ -132,12 +132,12 @@ ratio c = sym (c .before .momentum-passes .ensures) ∙ not-false _ (c .if7 .lef
 behind7 : (c : tie.Else7) → Behind 7 (at7 c)
 behind7 c = behind6 (c .before .before) ∙ rw (ratio c) refl
 
-points : (c : tie.Else8) → Each pointTest (at8 c)
+ranges-passed : (c : tie.Else8) → Each rangeTest (at8 c)
 unfolding testAt
-points c = sym (c .before .rows-pass4 .ensures) ∙ not-false _ (c .if8 .left)
+ranges-passed c = sym (c .before .rows-pass4 .ensures) ∙ not-false _ (c .if8 .left)
 
 behind8 : (c : tie.Else8) → Behind 8 (at8 c)
-behind8 c = behind7 (c .before .before) ∙ rw (points c) refl
+behind8 c = behind7 (c .before .before) ∙ rw (ranges-passed c) refl
 
 rows-pass-requires : tie.Need-rows-pass-requires
 rows-pass-requires c κs = c .before .pre
@@ -196,7 +196,7 @@ unfolding testAt
 returns-8 c = sym (behind7 (c .before .before) ∙ rw (sym (c .before .rows-pass4 .ensures) ∙ not-true _ (c .if8 .taken)) refl)
 
 sums-pass-requires : tie.Need-sums-pass-requires
-sums-pass-requires c κs = (at8 c .pre, points c)
+sums-pass-requires c κs = (at8 c .pre, ranges-passed c)
 
 returns-9 : tie.Need-returns-9
 returns-9 c = sym (behind8 (c .before .before) ∙ rw (sym (c .before .sums-pass .ensures) ∙ c .if9 .taken) refl)

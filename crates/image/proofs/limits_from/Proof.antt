@@ -1,8 +1,8 @@
--- `image::bounds_from` meets its contract. Assumes nothing.
+-- `image::limits_from` meets its contract. Assumes nothing.
 use native.Mathlib.Omega.{arith}
 use borrow.Author.Needs.{needs}
-use Rattle.image.proofs.bounds_from.Statement.{statement}
-use Rattle.image.proofs.bounds_from.Tie as tie
+use Rattle.image.proofs.limits_from.Statement.{statement}
+use Rattle.image.proofs.limits_from.Tie as tie
 
 mul-n : tie.Need-mul-n
 mul-n c = search needs
@@ -55,8 +55,8 @@ returns c = rw (c .enum-told .given .1) (omega arith, omega arith)
 returns-2 : tie.Need-returns-2
 returns-2 c = rw (c .before .before .enum-told2 .given .1) (omega arith, omega arith)
 
-pub bounds-from-spec : {M : Type 1} → statement M
-bounds-from-spec =
+pub limits-from-spec : {M : Type 1} → statement M
+limits-from-spec =
     tie.close
     (tie.spec
     mul-n
