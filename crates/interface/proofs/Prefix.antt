@@ -124,9 +124,9 @@ module _ (z : Sizes) (s t : List ℕ) (e : drop 32 s ≡ drop 32 t) where
   unfolding symmetryTest
   symmetry-same i = all-cong (λ (j : ℕ). eqZ (costAt z s i j) (costAt z s j i)) (λ (j : ℕ). eqZ (costAt z t i j) (costAt z t j i)) (commandCount z) (λ j l. rw (cost-same i j, cost-same j i))
 
-  range-same : momentumRange z s ≡ momentumRange z t
+  momentum-range-same : momentumRange z s ≡ momentumRange z t
   unfolding momentumRange
-  range-same = rw momentum-same
+  momentum-range-same = rw momentum-same
 
   ratio-same : momentumRatio z s ≡ momentumRatio z t
   unfolding momentumRatio leastMargin largestTotal
@@ -164,7 +164,7 @@ module _ (z : Sizes) (s t : List ℕ) (e : drop 32 s ≡ drop 32 t) where
         all-cong (symmetryTest z s) (symmetryTest z t) n (λ i l. symmetry-same i),
         all-cong (marginTest z s) (marginTest z t) n (λ i l. ap (leZ (pos 1)) (margin-same i)),
         all-cong (totalTest z s) (totalTest z t) n (λ i l. ap (λ (x : ℤ). leZ x (pos (2 ^ z .b))) (total-same i)),
-        range-same,
+        momentum-range-same,
         ratio-same,
         all-cong (rangeTest z s) (rangeTest z t) n (λ i l. range-same i),
         all-cong (rowTest z s) (rowTest z t) n (λ i l. row-same i),
