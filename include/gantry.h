@@ -69,10 +69,7 @@ enum gantry_number {
  * sheet's first line: GANTRY_IMAGE_BYTES. Numbers: 0, 1 to 5, 7 to 12, 15, 17.
  * An entry of a table becomes the nearest count, at a tie the even one; a low limit is rounded up, a high one down, the
  * step factor and the limits of state and target up. An image written here is accepted by the calls below.
- * Entries of tables were rounded down until they went to the nearest: a sheet may have another image now, unless they are
- * whole counts; a stored image is as it was. A sheet with one low and one high a motor, as it was before limits went by the
- * step, is 2 where N is above 1, and its stored image is 6 below; with N 1 both are as they were, but for 17 and for what
- * is said of the tables. */
+ * What a sheet or a stored image of an earlier archive is today: docs/UPGRADING.md. */
 uint32_t gantry_intake(const uint8_t *sheet, size_t sheet_len, uint8_t *image, size_t image_len);
 
 /* Reads a design sheet and writes its design page, which shows what rounding did: a line of 43 characters and byte 10 for
