@@ -1,3 +1,0 @@
--- The laws that docs cite.
-pub mod Words
-pub mod Sheets

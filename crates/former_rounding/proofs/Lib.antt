@@ -1,4 +1,0 @@
--- The laws that docs cite.
-pub mod Numbers
-pub mod Bounds
-pub mod OneTerm
