@@ -1,144 +1,216 @@
--- With N 1 an image has the number, and a cold start and a solve have the number and the answer, that they had. Assumes nothing.
-use mathlib.Core.Path.{_≡_, refl, sym, ap}
-use mathlib.Core.List.{List, _++_, map}
+-- Where sizes need none of the requests that a version lacks, an image has the number, and a cold start and a solve have the number and the
+-- answer, that they have by that version. Assumes nothing.
+use mathlib.Core.Path.{_≡_, refl, sym, ap, _∙_}
+use mathlib.Core.Bool.{Bool, true, false, cond, _||_}
+use mathlib.Core.List.{List, [], _∷_, _++_, map}
 use Prim.Native.Nat.{ℕ, _+_, _*_, _%_, _<_}
 use native.Mathlib.Nat.{mul-one, mod-eq-of-lt}
 use native.Mathlib.Omega.{arith}
-use lib.IntN.{pos, natAbs}
-use lib.ListN.{drop}
+use lib.Dec.{eqb}
+use lib.IntN.{ℤ, pos, natAbs}
+use lib.ListN.{drop, length}
 use lib.Signed.{leZ}
-use Rattle.word.specs.Word.{wordAt, wordsAt, wordsOut}
+use Rattle.word.specs.Word.{natAt, wordAt, wordsAt, wordsOut}
 use Rattle.gradient.specs.Problem.{Problem}
 use Rattle.gradient.specs.Scheme.{iterate}
 use Rattle.gradient.specs.Bounds.{errorAfter}
+use Rattle.gradient.specs.Demand.{every2, startWithin}
+use Rattle.gradient.specs.Index.{allTo}
 use Rattle.gradient.proofs.Index.{tab-cong}
 use Rattle.gradient.proofs.Tests.{all-cong}
 use Rattle.image.specs.declared.Sizes.{Sizes}
 use Rattle.image.specs.declared.Input.{Input}
 use Rattle.image.specs.declared.Input.the-variants.{State, Target}
+use Rattle.image.specs.Order.{Check, check, firstFault}
 use Rattle.image.specs.Sizes.{commandCount, inputCount, bodyCount}
 use Rattle.image.specs.Layout.{sizesOf, upperPlace, momentumPlace, gainsFrom, limitsFrom, lowerPlace, lowerAt, upperAt, momentumAt, limitAt, gainsOf, limitsOf, commandAt, problemAt, problemOf}
-use Rattle.image.specs.Checks.{limitTest, headNumber, bodyNumber}
+use Rattle.image.specs.Checks.{wordTest, limitTest, headNumber, bodyNumber}
 use Rattle.interface.specs.Tables.{orderTest, stopTest, momentumRange, momentumRatio, rangeTest, rowTest, tablesNumber, imageNumber}
-use Rattle.interface.specs.Calls.{inputsOf, startOf, valuesWithin, coldNumber, coldAnswer, callNumber, solveNumber, commandsAfter, boundsAfter, solveAnswer}
+use Rattle.interface.specs.Calls.{valuesOf, inputsOf, startOf, valuesWithin, coldNumber, coldAnswer, callNumber, solveNumber, commandsAfter, boundsAfter, solveAnswer}
+use Rattle.former.specs.Version.{Version}
 use Rattle.former.specs.Former as former
-use Rattle.former.specs.Relaid.{SameCalls}
+use Rattle.former.specs.Laws.{SameCalls}
 
--- ---- sizes with N 1
-module _ (z : Sizes) (one : z .steps ≡ 1) where
-  -- one command a motor
-  pub count-is : commandCount z ≡ z .nu
-  count-is = rw one (mul-one (z .nu))
+-- sizes that need none of the requests that a version lacks
+pub record Fits (v : Version) (z : Sizes) : Type 0 where
+  pub no-targets : v .targets ≡ false → z .nr ≡ 0
+  pub one-step : v .horizon ≡ false → z .steps ≡ 1
+  pub nearest : v .nearest ≡ true
 
-  pub body-count : bodyCount z ≡ former.bodyCount z
-  body-count = omega (arith, count-is)
+-- what request 1 added to a list goes where it makes no difference
+pub part : (v : Version) {A B : Type 0} (g : List A → B) (l : List A) → (v .targets ≡ false → g l ≡ g []) → g l ≡ g (former.ofTargets v l)
+part v g l h = by (v .targets) refl
+  where
+    by : (t : Bool) → v .targets ≡ t → g l ≡ g (cond t l [])
+    by true e = refl
+    by false e = h e
 
-  gains-place : (v : Input) → gainsFrom v z ≡ former.gainsFrom v z
+-- ---- such sizes
+module _ (v : Version) (z : Sizes) (f : Fits v z) where
+  pub count-same : commandCount z ≡ former.limitCount v z
+  count-same = by (v .horizon) refl
+    where
+      by : (h : Bool) → v .horizon ≡ h → commandCount z ≡ cond h (commandCount z) (z .nu)
+      by true e = refl
+      by false e = rw (f .one-step e) (mul-one (z .nu))
+
+  own-limit : (k : ℕ) → k < commandCount z → k ≡ former.limitOf v z k
+  own-limit k h = by (v .horizon) refl
+    where
+      by : (b : Bool) → v .horizon ≡ b → k ≡ cond b k (k % z .nu)
+      by true e = refl
+      by false e = let n : commandCount z ≡ z .nu = rw (f .one-step e) (mul-one (z .nu)) in let l : k < z .nu = omega arith in sym (mod-eq-of-lt l)
+
+  target-words : commandCount z * z .nr + z .nr ≡ cond (v .targets) (commandCount z * z .nr + z .nr) 0
+  target-words = by (v .targets) refl
+    where
+      by : (t : Bool) → v .targets ≡ t → commandCount z * z .nr + z .nr ≡ cond t (commandCount z * z .nr + z .nr) 0
+      by true e = refl
+      by false e = rw (f .no-targets e) (omega arith)
+
+  body-count : bodyCount z ≡ former.bodyCount v z
+  body-count = omega (arith, count-same, target-words)
+
+  gains-place : (i : Input) → gainsFrom i z ≡ former.gainsFrom v i z
   gains-place State = refl
-  gains-place Target = omega (arith, count-is)
+  gains-place Target = omega (arith, count-same)
 
-  limits-place : (v : Input) → limitsFrom v z ≡ former.limitsFrom v z
-  limits-place State = omega (arith, count-is)
-  limits-place Target = omega (arith, count-is)
-
-  own-motor : (k : ℕ) → k < commandCount z → k % z .nu ≡ k
-  own-motor k h = let l : k < z .nu = omega (arith, count-is) in mod-eq-of-lt l
+  limits-place : (i : Input) → limitsFrom i z ≡ former.limitsFrom v i z
+  limits-place State = omega (arith, count-same)
+  limits-place Target = omega (arith, count-same)
 
   module _ (s : List ℕ) where
-    lower-same : (k : ℕ) → k < commandCount z → lowerAt z s k ≡ former.lowerAt z s k
+    lower-same : (k : ℕ) → k < commandCount z → lowerAt z s k ≡ former.lowerAt v z s k
     unfolding lowerAt former.lowerAt
-    lower-same k h = ap (λ (j : ℕ). wordAt s (lowerPlace z + 4 * j)) (sym (own-motor k h))
+    lower-same k h = ap (λ (j : ℕ). wordAt s (lowerPlace z + 4 * j)) (own-limit k h)
 
-    upper-same : (k : ℕ) → k < commandCount z → upperAt z s k ≡ former.upperAt z s k
+    upper-same : (k : ℕ) → k < commandCount z → upperAt z s k ≡ former.upperAt v z s k
     unfolding upperAt former.upperAt
     upper-same k h =
-        let e : upperPlace z + 4 * k ≡ former.upperPlace z + 4 * (k % z .nu) = omega (arith, count-is, own-motor k h) in
+        let e : upperPlace z + 4 * k ≡ former.upperPlace v z + 4 * former.limitOf v z k = omega (arith, count-same, own-limit k h) in
         ap (wordAt s) e
 
-    momentum-same : momentumAt z s ≡ former.momentumAt z s
+    momentum-same : momentumAt z s ≡ former.momentumAt v z s
     unfolding momentumAt former.momentumAt
-    momentum-same = let e : momentumPlace z ≡ former.momentumPlace z = omega (arith, count-is) in ap (wordAt s) e
+    momentum-same = let e : momentumPlace z ≡ former.momentumPlace v z = omega (arith, count-same) in ap (wordAt s) e
 
-    limit-same : (v : Input) (j : ℕ) → limitAt v z s j ≡ former.limitAt v z s j
+    limit-same : (i : Input) (j : ℕ) → limitAt i z s j ≡ former.limitAt v i z s j
     unfolding limitAt former.limitAt
-    limit-same v j = ap (λ (at : ℕ). wordAt s (at + 4 * j)) (limits-place v)
+    limit-same i j = ap (λ (at : ℕ). wordAt s (at + 4 * j)) (limits-place i)
 
-    limits-same : (v : Input) → limitsOf v z s ≡ former.limitsOf v z s
-    limits-same v = ap (λ (at : ℕ). map natAbs (wordsAt s at (inputCount v z))) (limits-place v)
+    limits-same : (i : Input) → limitsOf i z s ≡ former.limitsOf v i z s
+    limits-same i = ap (λ (at : ℕ). map natAbs (wordsAt s at (inputCount i z))) (limits-place i)
 
-    gains-same : (v : Input) (i : ℕ) → gainsOf v z s i ≡ former.gainsOf v z s i
-    gains-same v i = ap (λ (at : ℕ). wordsAt (drop (at + 4 * (i * inputCount v z)) s) 0 (inputCount v z)) (gains-place v)
+    gains-same : (i : Input) (k : ℕ) → gainsOf i z s k ≡ former.gainsOf v i z s k
+    gains-same i k = ap (λ (at : ℕ). wordsAt (drop (at + 4 * (k * inputCount i z)) s) 0 (inputCount i z)) (gains-place i)
 
-    command-same : (k : ℕ) → k < commandCount z → commandAt z s k ≡ former.commandAt z s k
+    all-gains : (k : ℕ) → gainsOf State z s k ++ gainsOf Target z s k ≡ former.gainsOf v State z s k ++ former.ofTargets v (former.gainsOf v Target z s k)
+    unfolding wordsAt
+    all-gains k = rw (gains-same Target k) (part v (λ (l : List ℤ). gainsOf State z s k ++ l) (former.gainsOf v Target z s k) (λ e. rw (f .no-targets e)))
+
+    all-limits : limitsOf State z s ++ limitsOf Target z s ≡ former.limitsOf v State z s ++ former.ofTargets v (former.limitsOf v Target z s)
+    unfolding wordsAt
+    all-limits = rw (limits-same State, limits-same Target) (part v (λ (l : List ℕ). former.limitsOf v State z s ++ l) (former.limitsOf v Target z s) (λ e. rw (f .no-targets e)))
+
+    command-same : (k : ℕ) → k < commandCount z → commandAt z s k ≡ former.commandAt v z s k
     unfolding commandAt former.commandAt
-    command-same k h = rw (lower-same k h, upper-same k h, gains-same Target k)
+    command-same k h = rw (lower-same k h, upper-same k h, all-gains k)
 
-    problem-same : problemAt z s ≡ former.problemAt z s
+    problem-same : problemAt z s ≡ former.problemAt v z s
     unfolding problemAt former.problemAt
-    problem-same = rw (momentum-same, limits-same State, limits-same Target, tab-cong (commandAt z s) (former.commandAt z s) _ command-same)
+    problem-same = rw (momentum-same, all-limits, tab-cong (commandAt z s) (former.commandAt v z s) _ command-same)
 
     -- checks 5, 7, 17 and 8 to 12
-    body-same : bodyNumber z s ≡ former.bodyNumber z s
+    body-same : bodyNumber z s ≡ former.bodyNumber v z s
     unfolding bodyNumber former.bodyNumber
     body-same =
         rw (
           body-count,
-          all-cong (limitTest State z s) (former.limitTest State z s) (z .nx) (λ j l. ap (leZ (pos 0)) (limit-same State j)),
-          all-cong (limitTest Target z s) (former.limitTest Target z s) (z .nr) (λ j l. ap (leZ (pos 0)) (limit-same Target j)),
+          all-cong (limitTest State z s) (former.limitTest v State z s) (z .nx) (λ j l. ap (leZ (pos 0)) (limit-same State j)),
+          all-cong (limitTest Target z s) (former.limitTest v Target z s) (z .nr) (λ j l. ap (leZ (pos 0)) (limit-same Target j)),
         )
+        (part v (λ (l : List Check). firstFault (check 5 (allTo (wordTest z s) (former.bodyCount v z)) ∷ check 5 (allTo (former.limitTest v State z s) (z .nx)) ∷ l))
+        (check 5 (allTo (former.limitTest v Target z s) (z .nr)) ∷ []) (λ e. rw (f .no-targets e)))
 
-    range-same : (k : ℕ) → k < commandCount z → rangeTest z s k ≡ former.rangeTest z s k
+    range-same : (k : ℕ) → k < commandCount z → rangeTest z s k ≡ former.rangeTest v z s k
     unfolding rangeTest former.rangeTest
     range-same k h = rw (problem-same, command-same k h)
 
-    row-same : (k : ℕ) → k < commandCount z → rowTest z s k ≡ former.rowTest z s k
+    row-same : (k : ℕ) → k < commandCount z → rowTest z s k ≡ former.rowTest v z s k
     unfolding rowTest former.rowTest
     row-same k h = rw (problem-same, command-same k h)
 
-    pub tables-same : tablesNumber z s ≡ former.tablesNumber z s
+    pub tables-same : tablesNumber z s ≡ former.tablesNumber v z s
     unfolding tablesNumber former.tablesNumber momentumRange former.momentumRange momentumRatio former.momentumRatio
     tables-same =
         rw (
-          all-cong (orderTest z s) (former.orderTest z s) (commandCount z) (λ k h. rw (lower-same k h, upper-same k h)),
-          all-cong (stopTest z s) (former.stopTest z s) (commandCount z) (λ k h. rw (lower-same k h, upper-same k h)),
+          all-cong (orderTest z s) (former.orderTest v z s) (commandCount z) (λ k h. rw (lower-same k h, upper-same k h)),
+          all-cong (stopTest z s) (former.stopTest v z s) (commandCount z) (λ k h. rw (lower-same k h, upper-same k h)),
           momentum-same,
-          all-cong (rangeTest z s) (former.rangeTest z s) (commandCount z) range-same,
-          all-cong (rowTest z s) (former.rowTest z s) (commandCount z) row-same,
+          all-cong (rangeTest z s) (former.rangeTest v z s) (commandCount z) range-same,
+          all-cong (rowTest z s) (former.rowTest v z s) (commandCount z) row-same,
         )
 
-    pub within-same : (v : Input) (values : List ℕ) → valuesWithin v z s values ≡ former.valuesWithin v z s values
+    pub within-same : (i : Input) (values : List ℕ) → valuesWithin i z s values ≡ former.valuesWithin v i z s values
     unfolding valuesWithin former.valuesWithin
-    within-same v values = rw (limits-same v)
+    within-same i values = rw (limits-same i)
 
--- ---- an image with N 1
-module _ (s : List ℕ) (one : sizesOf s .steps ≡ 1) where
-  head-same : headNumber s ≡ former.headNumber s
+-- ---- an image with such sizes, and an empty target where there was none
+module _ (v : Version) (s : List ℕ) (f : Fits v (sizesOf s)) where
+  abbrev z : Sizes
+  z = sizesOf s
+
+  word-6 : true ≡ v .targets || eqb (natAt s 24) 0
+  unfolding sizesOf
+  word-6 = by (v .targets) refl
+    where
+      by : (t : Bool) → v .targets ≡ t → true ≡ t || eqb (natAt s 24) 0
+      by true e = refl
+      by false e = rw (f .no-targets e)
+
+  head-same : headNumber s ≡ former.headNumber v s
   unfolding headNumber former.headNumber
-  head-same = rw (body-count (sizesOf s) one)
+  head-same = rw (← word-6, body-count v z f)
 
-  image-same : imageNumber s ≡ former.imageNumber s
+  image-same : imageNumber s ≡ former.imageNumber v s
   unfolding imageNumber former.imageNumber
-  image-same = rw (head-same, body-same (sizesOf s) one s, tables-same (sizesOf s) one s)
+  image-same = rw (head-same, body-same v z f s, tables-same v z f s)
 
-  whole-problem : problemOf s ≡ former.problemOf s
+  whole-problem : problemOf s ≡ former.problemOf v s
   unfolding problemOf former.problemOf
-  whole-problem = problem-same (sizesOf s) one s
+  whole-problem = problem-same v z f s
 
-  call-same : (state target start : List ℕ) (room : ℕ) → callNumber s state target start room ≡ former.callNumber s state target start room
-  unfolding callNumber former.callNumber
-  call-same state target start room = rw (whole-problem, within-same (sizesOf s) one s State state, within-same (sizesOf s) one s Target target)
+  module _ (state target start : List ℕ) (none : v .targets ≡ false → target ≡ []) where
+    inputs-same : inputsOf z state target ≡ former.inputsOf v z state target
+    unfolding inputsOf former.inputsOf valuesOf wordsAt
+    inputs-same = part v (λ (l : List ℤ). valuesOf State z state ++ l) (valuesOf Target z target) (λ e. rw (f .no-targets e))
+
+    no-fault : v .targets ≡ false → former.inputPasses v Target z s target ≡ true
+    unfolding former.valuesWithin valuesOf wordsAt every2
+    no-fault e = rw (none e, f .no-targets e)
+
+    call-same : (room : ℕ) → callNumber s state target start room ≡ former.callNumber v s state target start room
+    unfolding callNumber former.callNumber
+    call-same room =
+        rw (whole-problem, within-same v z f s State state, within-same v z f s Target target)
+        (part v (λ (l : List Check).
+        firstFault
+        (check 13 (former.inputPasses v State z s state)
+        ∷ l
+        ++ check 14 (eqb (length start) (4 * commandCount z))
+        ∷ check 14 (startWithin (former.problemOf v s) (startOf z start))
+        ∷ check 15 (eqb room (8 * commandCount z))
+        ∷ [])) (check 16 (former.inputPasses v Target z s target) ∷ []) (λ e. rw (no-fault e)))
 
 -- ---- the law
-pub one-step-calls : (image state target start : List ℕ) (room : ℕ) → sizesOf image .steps ≡ 1 → SameCalls image state target start room
+pub same-calls : (v : Version) (image state target start : List ℕ) (room : ℕ) → Fits v (sizesOf image) → (v .targets ≡ false → target ≡ []) → SameCalls v image state target start room
 unfolding coldNumber former.coldNumber coldAnswer former.coldAnswer solveNumber former.solveNumber solveAnswer former.solveAnswer commandsAfter former.commandsAfter boundsAfter former.boundsAfter
-one-step-calls image state target start room e = record {
-  cold-number = rw (image-same image e);
-  cold-answer = rw (whole-problem image e);
-  number = rw (image-same image e, call-same image e state target start room);
-  answer = ap out (whole-problem image e);
+same-calls v image state target start room f none = record {
+  cold-number = rw (image-same v image f);
+  cold-answer = rw (whole-problem v image f);
+  number = rw (image-same v image f, call-same v image f state target start none room);
+  answer = ap (λ (x : List ℤ). out (problemOf image) x) (inputs-same v image f state target start none) ∙ ap (λ (p : Problem). out p (former.inputsOf v (sizesOf image) state target)) (whole-problem v image f);
 }
   where
-    out : Problem → List ℕ
-    out p =
-        wordsOut (iterate p (inputsOf (sizesOf image) state target) (startOf (sizesOf image) start) (sizesOf image .sweeps) .z)
-        ++ wordsOut (map pos (errorAfter p (sizesOf image .sweeps) .e))
+    out : Problem → List ℤ → List ℕ
+    out p inputs = wordsOut (iterate p inputs (startOf (sizesOf image) start) (sizesOf image .sweeps) .z) ++ wordsOut (map pos (errorAfter p (sizesOf image .sweeps) .e))

@@ -2,5 +2,5 @@
 pub mod Calls
 pub mod Due
 pub mod Sheets
-pub mod Labels
+pub mod Laws
 pub mod MoreSteps

@@ -1,3 +1,4 @@
--- The definitions before request 3, and what became of what was accepted by them.
+-- The definitions of today but for a request, and what document 02 says of what was before.
+pub mod Version
 pub mod Former
-pub mod Relaid
+pub mod Laws
