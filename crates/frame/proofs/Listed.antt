@@ -1,18 +1,17 @@
 -- The lines due, by their place, are the tables' lines one after the other, each in its own order. Assumes nothing.
 use mathlib.Core.Path.{_≡_, refl, sym, ap, _∙_, subst}
-use mathlib.Core.Bool.{Bool, true, false, cond, _&&_}
+use mathlib.Core.Bool.{Bool, true, false, cond}
 use mathlib.Core.List.{List, [], _∷_, _++_}
-use Prim.Native.Nat.{ℕ, zero, suc, _+_, _-_, _*_, _/_, _%_, _≤_, _<_}
-use native.Mathlib.Nat.{suc-mul, zero-mul, mul-comm, mul-add-div-right, mul-add-mod-self-right, mod-eq-of-lt, div-eq-of-lt, add-zero, not-suc-le-zero}
+use Prim.Native.Nat.{ℕ, zero, suc, _+_, _-_, _*_, _/_, _%_, _<_}
+use native.Mathlib.Nat.{suc-mul, zero-mul, mul-comm, mul-add-div-right, mul-add-mod-self-right, mod-eq-of-lt, div-eq-of-lt, add-zero}
 use native.Mathlib.Omega.{arith}
-use lib.Dec.{leb, ltb}
+use lib.Dec.{ltb}
 use lib.ListN.{length, getD, length-append, List·getD-append}
 use lib.Seq.{getD-append-add, ext-getD}
-use borrow.Author.Tests.{leb-true, ltb-true, ltb-false}
+use borrow.Author.Tests.{ltb-true, ltb-false}
 use Rattle.gradient.specs.Index.{tab}
 use Rattle.gradient.proofs.Index.{tab-length, tab-at}
 use Rattle.image.specs.declared.Sizes.{Sizes}
-use Rattle.image.proofs.Ordering.{both}
 use Rattle.frame.specs.declared.Due.{Due}
 use Rattle.frame.specs.Frame.{Table, countIn, due, dueAt, dueIn, lineOf, tables, total}
 use Rattle.frame.specs.Laws.{nested, tableLines, tablesLines}
@@ -94,28 +93,3 @@ listed z =
     (λ i h.
     let l : i < countIn (tables z) = subst (λ (m : ℕ). i < m) (tab-length (dueIn (tables z)) (countIn (tables z))) h in
     tab-at (dueIn (tables z)) (countIn (tables z)) i no l ∙ sym (tables-at (tables z) i l))
-
--- ---- no line is of a kind below 02
-abbrev kindsFrom : ℕ → List Table → Bool
-kindsFrom k [] = true
-kindsFrom k (t ∷ ts) = leb k (t .kind) && kindsFrom k ts
-
-line-kind : (t : Table) (i : ℕ) → lineOf t i .kind ≡ t .kind
-line-kind t i = by (t .columnMajor)
-  where
-    by : (m : Bool) → cond m (due (t .kind) (i % t .rows) (i / t .rows)) (due (t .kind) (i / t .columns) (i % t .columns)) .kind ≡ t .kind
-    by true = refl
-    by false = refl
-
-due-kind : (k : ℕ) (ts : List Table) → kindsFrom k ts ≡ true → (i : ℕ) → i < countIn ts → k ≤ dueIn ts i .kind
-due-kind k [] q i h = absurd (not-suc-le-zero h)
-due-kind k (t ∷ ts) q i h = by (λ l. due-kind k ts (both (leb k (t .kind)) (kindsFrom k ts) q .1) (i - t .rows * t .columns) l) (ltb i (t .rows * t .columns)) refl
-  where
-    by : (i - t .rows * t .columns < countIn ts → k ≤ dueIn ts (i - t .rows * t .columns) .kind) → (b : Bool) → ltb i (t .rows * t .columns) ≡ b
-        → k ≤ cond b (lineOf t i) (dueIn ts (i - t .rows * t .columns)) .kind
-    by again true e = rw (line-kind t i) (leb-true k (t .kind) (both (leb k (t .kind)) (kindsFrom k ts) q .0))
-    by again false e = let l = ltb-false i (t .rows * t .columns) e in again (omega arith)
-
-pub kind-least : (z : Sizes) (i : ℕ) → i < total z → 2 ≤ dueAt z i .kind
-unfolding dueAt total
-kind-least z = due-kind 2 (tables z) refl
