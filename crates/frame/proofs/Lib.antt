@@ -4,3 +4,4 @@ pub mod Listed
 pub mod Sized
 pub mod Limits
 pub mod Word
+pub mod Numbers

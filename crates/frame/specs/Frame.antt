@@ -1,16 +1,17 @@
 -- Document 01, "The design sheet", with requests 1, 3 and 7: what line 01 gives, the lines due after it, and the word of a line's double.
 -- Definitions only.
 use Prim.Native.Nat.{ℕ, _+_, _-_, _*_, _/_, _%_, _≤_, _<_}
-use mathlib.Core.Bool.{Bool, true, false, _&&_, _||_, cond}
+use mathlib.Core.Bool.{Bool, true, false, not, _&&_, _||_, cond}
 use mathlib.Core.List.{List, [], _∷_}
 use lib.Dec.{ltb, eqb}
 use lib.IntN.{ℤ, pos, negsuc}
 use lib.Ieee.{Float, fin, binary64, ofBits}
-use Rattle.double.specs.Double.{convert, convertedNumber, ruleOf}
+use Rattle.double.specs.Double.{accepted, convert, convertedNumber, isNegative, rounded, ruleOf}
 use Rattle.double.specs.declared.Converted.{Converted}
 use Rattle.double.specs.declared.Converted.the-variants.{Word, Refused}
 use Rattle.double.specs.declared.Rounding.{Rounding}
 use Rattle.double.specs.declared.Rounding.the-variants.{Down, Up, Nearest}
+use Rattle.image.specs.Order.{check, firstFault}
 use Rattle.image.specs.Sizes.{commandCount, sound}
 use Rattle.image.specs.declared.Sizes.{Sizes}
 use Rattle.line.specs.Line.{lineNumber}
@@ -46,6 +47,18 @@ headOf End = Unsized (lineNumber End)
 headOf Malformed = Unsized (lineNumber Malformed)
 headOf (Frame kind row column bits) =
     cond (eqb kind 1 && frameZeros bits) (cond (sound (frameSizes row column bits)) (Sized (frameSizes row column bits)) (Unsized 3)) (Unsized 2)
+
+-- document 01's number for each case of `Head`: sizes go with 0, a fault with its own
+abbrev pub headFault : Head → ℕ
+headFault (Sized z) = 0
+headFault (Unsized n) = n
+
+-- the number of line 01: that of the line, 2 for "only the kind", and "the other two 0 bytes", 3 for "a size outside the ranges"
+abbrev pub headNumberOf : Line → ℕ
+headNumberOf End = lineNumber End
+headNumberOf Malformed = lineNumber Malformed
+headNumberOf (Frame kind row column bits) =
+    firstFault (check 2 (eqb kind 1) ∷ check 2 (frameZeros bits) ∷ check 3 (sound (frameSizes row column bits)) ∷ [])
 
 -- ---- the lines due after it
 
@@ -141,6 +154,12 @@ unfoldable pub wordOf : Sizes → ℕ → Float → Converted
 wordOf z kind x =
     cond (isInputLimit kind) (notBelowZero (convert (ruleOf (roundingOf kind)) (z .b) (z .w) x)) (convert (ruleOf (roundingOf kind)) (z .b) (z .w) x)
 
+-- its number: 5 for "NaN, infinity, rounded value outside the word, or a state limit below 0 once rounded"
+abbrev pub wordNumber : Sizes → ℕ → Float → ℕ
+wordNumber z kind x =
+    let rule = ruleOf (roundingOf kind) in
+    firstFault (check 5 (accepted rule (z .b) (z .w) x) ∷ check 5 (not (isInputLimit kind && isNegative (rounded rule (z .b) x))) ∷ [])
+
 -- the word of a conversion; 0 where there is none
 abbrev pub convertedWord : Converted → ℤ
 convertedWord (Word v) = v
@@ -156,7 +175,18 @@ valueOf d End = Fault (lineNumber End)
 valueOf d Malformed = Fault (lineNumber Malformed)
 valueOf d (Frame kind row column bits) = cond (isDue d kind row column) (Double (ofBits binary64 bits)) (Fault 2)
 
--- document 01's number for each case of `Value`: a double goes with that of its conversion, 0 or 5, a fault with its own
+-- document 01's number for each case of `Value`: a double goes with 0, a fault with its own
+abbrev pub valueFault : Value → ℕ
+valueFault (Double x) = 0
+valueFault (Fault n) = n
+
+-- the number of a line where d is due: that of the line, or 2 for "not the kind, row and column due here"
+abbrev pub dueNumber : Due → Line → ℕ
+dueNumber d End = lineNumber End
+dueNumber d Malformed = lineNumber Malformed
+dueNumber d (Frame kind row column bits) = firstFault (check 2 (isDue d kind row column) ∷ [])
+
+-- and once its double is converted: a double goes with that number, 0 or 5
 abbrev pub valueNumber : Sizes → ℕ → Value → ℕ
 valueNumber z kind (Double x) = convertedNumber (wordOf z kind x)
 valueNumber z kind (Fault n) = n

@@ -2,7 +2,8 @@
 ghost use mathlib.Core.Path.{_≡_};
 ghost use Prim.Native.Nat.{_<_};
 ghost use Rattle.image.specs.Sizes.{Sound};
-ghost use Rattle.frame.specs.Frame.{frameSizes, headOf, total, due, dueAt, roundingOf, notBelowZero, wordOf, valueOf};
+ghost use Rattle.double.specs.Double.{convertedNumber};
+ghost use Rattle.frame.specs.Frame.{frameSizes, headOf, headFault, headNumberOf, total, due, dueAt, roundingOf, notBelowZero, wordOf, wordNumber, valueOf, valueFault, dueNumber};
 use double::Converted;
 use double::Rounding;
 use image::Sizes;
@@ -44,7 +45,7 @@ fn frame_sizes(row: usize, column: usize, bits: u64) -> Sizes
 
 // What line 01 gives.
 pub fn head_of(l: Line) -> Head
-    ensures { λ r. ⌜ r ≡ headOf l ⌝ }
+    ensures { λ r. ⌜ (r ≡ headOf l) × (headFault r ≡ headNumberOf l) ⌝ }
 {
     match l {
         Line::Frame {
@@ -148,7 +149,7 @@ fn not_below_zero(c: Converted) -> Converted
 
 // The word of a value of a kind.
 pub fn word_of(z: Sizes, kind: usize, x: f64) -> Converted
-    ensures { λ r. ⌜ r ≡ wordOf z kind x ⌝ }
+    ensures { λ r. ⌜ (r ≡ wordOf z kind x) × (convertedNumber r ≡ wordNumber z kind x) ⌝ }
 {
     let c = double::to_word(x, z.b, z.w, rounding(kind));
     if kind == 7 {
@@ -159,7 +160,7 @@ pub fn word_of(z: Sizes, kind: usize, x: f64) -> Converted
 
 // What a line gives where d is due.
 pub fn value_of(d: Due, l: Line) -> Value
-    ensures { λ r. ⌜ r ≡ valueOf d l ⌝ }
+    ensures { λ r. ⌜ (r ≡ valueOf d l) × (valueFault r ≡ dueNumber d l) ⌝ }
 {
     match l {
         Line::Frame {
