@@ -25,7 +25,7 @@ module _ (c : tie.After-value-of) where
   st = c .before .before .before .before .before
 
   value : lineValue (st .args .z) (st .args .s .now) (st .args .i) ≡ c .value-of .result
-  value = value-is (st .args .z) (st .args .s .now) (st .args .i) _ _ _ (c .value-of .ensures) (c .before .before .due-at .ensures) (c .before .line-from .ensures .0)
+  value = value-is (st .args .z) (st .args .s .now) (st .args .i) _ _ _ (c .value-of .ensures .0) (c .before .before .due-at .ensures) (c .before .line-from .ensures .0)
 
 -- its double and that of its word are compared
 module _ (c : tie.After-effect-of) where

@@ -37,7 +37,7 @@ module _ (c : tie.After-head-of) where
   passed = c .before .before .before
 
   head-is : c .head-of .result ≡ headOf (lineAt (sheet passed) 0)
-  head-is = c .head-of .ensures ∙ ap headOf (c .before .line-from .ensures .0)
+  head-is = c .head-of .ensures .0 ∙ ap headOf (c .before .line-from .ensures .0)
 
   exact : room passed ≡ 44 * (t passed .read-design .result .count - 8)
   exact = c .before .before .if2 .left

@@ -37,7 +37,7 @@ module _ (c : tie.After-known-told) where
   x = c .before .x .given .0 .0
 
   value : lineValue (st .args .z) (st .args .s .now) (st .args .i) ≡ Double x
-  value = value-is (st .args .z) (st .args .s .now) (st .args .i) _ _ _ (c .before .before .before .value-of .ensures) (c .before .before .before .before .before .due-at .ensures) (c .before .before .before .before .line-from .ensures .0) ∙ c .before .x .given .1
+  value = value-is (st .args .z) (st .args .s .now) (st .args .i) _ _ _ (c .before .before .before .value-of .ensures .0) (c .before .before .before .before .before .due-at .ensures) (c .before .before .before .before .line-from .ensures .0) ∙ c .before .x .given .1
 
   -- what was due
   abbrev here : Due
@@ -69,7 +69,7 @@ module _ (c : tie.After-known-told4) where
   v = c .before .v .given .0 .0
 
   word-is : wordOf (st kt .args .z) (dueAt (st kt .args .z) (st kt .args .i) .kind) (x kt) ≡ Word v
-  word-is = ap (λ (d : Due). wordOf (st kt .args .z) (d .kind) (x kt)) (sym (due-is kt)) ∙ sym (c .before .before .before .word-of .ensures) ∙ c .before .v .given .1
+  word-is = ap (λ (d : Due). wordOf (st kt .args .z) (d .kind) (x kt)) (sym (due-is kt)) ∙ sym (c .before .before .before .word-of .ensures .0) ∙ c .before .v .given .1
 
   taken : (lineFault (st kt .args .z) (st kt .args .s .now) (st kt .args .i) ≡ 0) × (lineWord (st kt .args .z) (st kt .args .s .now) (st kt .args .i) ≡ v)
   taken = fault-word (st kt .args .z) (st kt .args .s .now) (st kt .args .i) (x kt) v (value kt) word-is
@@ -115,7 +115,7 @@ returns : tie.Need-returns
 returns c =
     let k = c .before .before .before in
     let u = k .before .before .before .before .before in
-    let g = value-is (u .args .z) (u .args .s .now) (u .args .i) _ _ _ (k .value-of .ensures) (k .before .before .due-at .ensures) (k .before .line-from .ensures .0) ∙ c .before .fault .given .1 in
+    let g = value-is (u .args .z) (u .args .s .now) (u .args .i) _ _ _ (k .value-of .ensures .0) (k .before .before .due-at .ensures) (k .before .line-from .ensures .0) ∙ c .before .fault .given .1 in
     (value-fault (u .args .z) (u .args .s .now) (u .args .i) _ g, λ q. absurd (fault-none (u .args .z) (u .args .s .now) (u .args .i) _ g q))
 
 command-of-requires : tie.Need-command-of-requires
@@ -246,7 +246,7 @@ returns-6 : tie.Need-returns-6
 returns-6 c =
     let k = c .before .before .before .before .before in
     let u = st k in
-    let h : wordOf (u .args .z) (dueAt (u .args .z) (u .args .i) .kind) (x k) ≡ Refused = ap (λ (d : Due). wordOf (u .args .z) (d .kind) (x k)) (sym (due-is k)) ∙ sym (c .before .before .word-of .ensures) ∙ c .enum-told2 .given .1 in
+    let h : wordOf (u .args .z) (dueAt (u .args .z) (u .args .i) .kind) (x k) ≡ Refused = ap (λ (d : Due). wordOf (u .args .z) (d .kind) (x k)) (sym (due-is k)) ∙ sym (c .before .before .word-of .ensures .0) ∙ c .enum-told2 .given .1 in
     (sym (fault-refused (u .args .z) (u .args .s .now) (u .args .i) (x k) (value k) h), λ q. let n : ⊥ = omega arith in absurd n)
 
 pub take-line-spec : {M : Type 1} → statement M

@@ -10,7 +10,7 @@ use Rattle.page_text.proofs.design_count.Statement.{statement}
 use Rattle.page_text.proofs.design_count.Tie as tie
 
 head-is : (c : tie.After-head-of) → headOf (lineAt (c .before .before .before .args .drive .now) 0) ≡ c .head-of .result
-head-is c = ap headOf (sym (c .before .line-from .ensures .0)) ∙ sym (c .head-of .ensures)
+head-is c = ap headOf (sym (c .before .line-from .ensures .0)) ∙ sym (c .head-of .ensures .0)
 
 line-from-requires : tie.Need-line-from-requires
 line-from-requires c κs = search needs

@@ -20,7 +20,7 @@ module _ (c : tie.After-head-of) where
   text = a .args .s .now
 
   head-is : headOf (lineAt text 0) ≡ c .head-of .result
-  head-is = ap headOf (sym (c .before .line-from .ensures .0)) ∙ sym (c .head-of .ensures)
+  head-is = ap headOf (sym (c .before .line-from .ensures .0)) ∙ sym (c .head-of .ensures .0)
 
 line-from-requires : tie.Need-line-from-requires
 line-from-requires c κs = search needs
