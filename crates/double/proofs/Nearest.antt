@@ -16,9 +16,8 @@ use lib.Signed.{_≤ℤ_, ltZ, ltZ-yes, ltZ-no}
 use Rattle.integer.specs.Parts.{Ex, up, dn, int, nat, val, plus, minus, _⊖_, _⊡_, neg}
 use Rattle.integer.proofs.Parts.{eq!, eq?, le!, le?, lt?, abs!, abs-both, abs-parts}
 use Rattle.integer.proofs.Laws.{≤ℤ-antisym, abs-neg}
-use Rattle.integer.proofs.Tests.{of-true}
-use Rattle.double.specs.Double.{signed, roundNearest, scalable, rounded}
-use Rattle.double.specs.Nearest.{distance, IsNearest, IsNearestCount}
+use Rattle.double.specs.Double.{signed, roundNearest, rounded}
+use Rattle.double.specs.Nearest.{distance, IsNearest}
 use Rattle.double.proofs.Signs.{abs-signed, signed-not}
 
 -- ---- of naturals: c × d is at most half of d away from a, and by less where c is odd
@@ -150,14 +149,7 @@ module _ (n z : ℤ) {d : ℕ} (D : 0 < d) where
       let j : up r + dn n < up n + dn r + 1 = lt-of-mul-lt-mul-right d (omega arith) in
       le! (int r) (int n) (omega arith)
 
--- ---- of a double
-pub nearest-count : (b : ℕ) (x : Float) → scalable b x ≡ true → IsNearestCount b x (rounded roundNearest b x)
-unfolding scalable rounded
-nearest-count b nan h = absurd (of-true h)
-nearest-count b (inf s) h = absurd (of-true h)
-nearest-count b (fin s m e) h = nearest-is (signed s (m * binary.up e * 2 ^ b)) (down-pos e)
-
--- the opposite number has the opposite count
+-- ---- of a double: the opposite number has the opposite count
 pub count-negates : (b : ℕ) (x : Float) → rounded roundNearest b (binary.neg x) ≡ negℤ (rounded roundNearest b x)
 unfolding rounded binary.neg
 count-negates b nan = refl

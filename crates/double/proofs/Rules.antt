@@ -2,20 +2,26 @@
 -- `Nearest.antt` has what nearest means.
 -- Another rule joins by a proof that it is one. Assumes nothing.
 use mathlib.Core.Path.{_≡_, refl, sym, ap, _∙_, subst}
-use Prim.Native.Nat.{ℕ, _+_, _*_, _≤_, _<_}
+use mathlib.Core.Bool.{true}
+use Prim.Native.Nat.{ℕ, _+_, _*_, _^_, _≤_, _<_}
 use native.Mathlib.Nat.{mul-le-mul-right, mul-lt-mul-of-pos-right, le-of-mul-le-mul-right, lt-of-mul-lt-mul-right}
 use native.Mathlib.Omega.{arith}
 use lib.IntN.{ℤ, pos, negsuc, negℤ, natAbs, _+ℤ_, _-ℤ_, _*ℤ_, negℤ-negℤ}
 use lib.Signed.{_≤ℤ_, _<ℤ_}
+use lib.Ieee.{Float, nan, inf, fin}
+use lib.Ieee as binary
+use lib.Ieee.Fits.{down-pos}
 use Rattle.integer.specs.Parts.{up, dn, int, nat, _⊕_, _⊖_, _⊡_, neg}
 use Rattle.integer.specs.Round.{floor}
 use Rattle.integer.proofs.Parts.{le!, lt!, eq?, le?, lt?, abs!, abs?, abs-parts}
 use Rattle.integer.proofs.Laws.{neg-mul, ≤ℤ-antisym, ≤ℤ-of-≡}
 use Rattle.integer.proofs.Floor.{floor-lower, floor-upper, floor-le, floor-gt, floor-unique, floor-mono, floor-exact}
-use Rattle.double.specs.Double.{roundDown, roundUp, roundNearest, ruleOf}
+use Rattle.integer.proofs.Tests.{of-true}
+use Rattle.double.specs.Double.{roundDown, roundUp, roundNearest, ruleOf, rounded, scalable, signed}
+use Rattle.double.specs.Nearest.{IsRounded, IsRoundedCount}
 use Rattle.double.specs.declared.Rounding.{Rounding}
 use Rattle.double.specs.declared.Rounding.the-variants.{Down, Up, Nearest}
-use Rattle.double.proofs.Nearest.{nearest-same, nearest-not-below, nearest-not-above}
+use Rattle.double.proofs.Nearest.{nearest-is, nearest-same, nearest-not-below, nearest-not-above}
 
 -- ---- what each rule means: z / d - 1 < down ≤ z / d ≤ up < z / d + 1
 pub down-lower : (z : ℤ) {d : ℕ} → 0 < d → (roundDown z d *ℤ pos d) ≤ℤ z
@@ -35,6 +41,18 @@ up-upper z {d} D =
     let q = floor (negℤ z) d in
     let h = lt? (neg (int z)) (int q ⊡ d ⊕ nat d) (floor-gt (negℤ z) D) in
     lt! (neg (int q) ⊡ d) (int z ⊕ nat d) (omega arith)
+
+-- ---- so each rounding is what its name says, of a fraction and of a double
+rounded-is : (how : Rounding) (z : ℤ) {d : ℕ} → 0 < d → IsRounded how z d (ruleOf how z d)
+rounded-is Down z D = (down-lower z D, down-upper z D)
+rounded-is Up z D = (up-lower z D, up-upper z D)
+rounded-is Nearest z D = nearest-is z D
+
+pub rounded-count : (how : Rounding) (b : ℕ) (x : Float) → scalable b x ≡ true → IsRoundedCount how b x (rounded (ruleOf how) b x)
+unfolding scalable rounded
+rounded-count how b nan h = absurd (of-true h)
+rounded-count how b (inf s) h = absurd (of-true h)
+rounded-count how b (fin s m e) h = rounded-is how (signed s (m * binary.up e * 2 ^ b)) (down-pos e)
 
 -- ---- a rule
 

@@ -1,12 +1,16 @@
--- What "the nearest whole count, a tie to the even one" says of a fraction, a double and an integer: what the laws of it state. Definitions only.
+-- What "rounded to the nearest whole count, a tie to the even one", "up" and "down" say of a fraction, a double and an integer: what the laws
+-- of them state. Definitions only.
 use mathlib.Core.Path.{_≡_}
 use mathlib.Core.Bool.{Bool, false, _&&_}
 use Prim.Native.Nat.{ℕ, _+_, _*_, _%_, _^_, _≤_}
 use lib.Dec.{ltb}
-use lib.IntN.{ℤ, pos, natAbs, _-ℤ_, _*ℤ_}
+use lib.IntN.{ℤ, pos, natAbs, _+ℤ_, _-ℤ_, _*ℤ_}
 use lib.Ieee.{Float, nan, inf, fin, up, down}
+use lib.Signed.{_≤ℤ_, _<ℤ_}
 use Rattle.word.specs.Format.{isFormat, top}
 use Rattle.double.specs.Double.{accepted, roundNearest, signed}
+use Rattle.double.specs.declared.Rounding.{Rounding}
+use Rattle.double.specs.declared.Rounding.the-variants.{Down, Up, Nearest}
 
 -- how far n is from z / d, in parts of 1 / d
 abbrev pub distance : ℤ → ℕ → ℤ → ℕ
@@ -21,11 +25,17 @@ pub record IsNearest (z : ℤ) (d : ℕ) (n : ℤ) : Type 0 where
   -- "a tie to the even one"
   pub tie-even : 2 * distance z d n ≡ d → natAbs n % 2 ≡ 0
 
--- n is the nearest whole count to a finite double, "scaled by 2^b"
-abbrev pub IsNearestCount : ℕ → Float → ℤ → Type 0
-IsNearestCount b nan n = ⊥
-IsNearestCount b (inf s) n = ⊥
-IsNearestCount b (fin s m e) n = IsNearest (signed s (m * up e * 2 ^ b)) (down e) n
+-- n is z / d rounded: down it is not above, up it is not below, and less than 1 away
+abbrev pub IsRounded : Rounding → ℤ → ℕ → ℤ → Type 0
+IsRounded Down z d n = ((n *ℤ pos d) ≤ℤ z) × (z <ℤ (n *ℤ pos d +ℤ pos d))
+IsRounded Up z d n = (z ≤ℤ (n *ℤ pos d)) × ((n *ℤ pos d) <ℤ (z +ℤ pos d))
+IsRounded Nearest z d n = IsNearest z d n
+
+-- n is a finite double, "scaled by 2^b", rounded: a whole number of counts
+abbrev pub IsRoundedCount : Rounding → ℕ → Float → ℤ → Type 0
+IsRoundedCount how b nan n = ⊥
+IsRoundedCount how b (inf s) n = ⊥
+IsRoundedCount how b (fin s m e) n = IsRounded how (signed s (m * up e * 2 ^ b)) (down e) n
 
 -- ---- the edge of the word
 

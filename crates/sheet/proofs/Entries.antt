@@ -13,10 +13,6 @@ use borrow.Author.Tests.{eqb-true, leb-true}
 use Rattle.word.specs.Word.{wordAt}
 use Rattle.hex.specs.Hex.{hexAt}
 use Rattle.double.specs.Double.{scalable, rounded, ruleOf}
-use Rattle.double.specs.Nearest.{IsNearestCount}
-use Rattle.double.specs.declared.Rounding.{Rounding}
-use Rattle.double.specs.declared.Rounding.the-variants.{Nearest}
-use Rattle.double.proofs.Nearest.{nearest-count}
 use Rattle.image.specs.Order.{orElse}
 use Rattle.image.specs.Sizes.{bodyCount, Sound}
 use Rattle.image.specs.Layout.{sizesOf}
@@ -27,13 +23,13 @@ use Rattle.line.specs.declared.Line.{Line}
 use Rattle.line.proofs.Laws.{framed, frame-end}
 use Rattle.frame.specs.declared.Value.{Value}
 use Rattle.frame.specs.declared.Value.the-variants.{Double, Fault}
-use Rattle.frame.specs.Frame.{dueAt, frameSizes, isDue, isTableEntry, roundingOf, total, valueDouble, valueNumber, valueOf}
+use Rattle.frame.specs.Frame.{dueAt, frameSizes, isDue, roundingOf, total, valueDouble, valueNumber, valueOf}
 use Rattle.frame.proofs.Sized.{differ, head-sizes, head-sound}
 use Rattle.frame.proofs.Laws.{total-is}
 use Rattle.frame.proofs.Word.{due-double, word-rounded, word-scalable}
 use Rattle.lines.specs.Lines.{lineDouble, lineFault, lineValue, lineWord}
 use Rattle.lines.proofs.Step.{fault-none, passed-word}
-use Rattle.sheet.specs.Laws.{doubleAt, NearestTables, Rounded}
+use Rattle.sheet.specs.Laws.{Rounded}
 use Rattle.sheet.specs.Sheet.{endNumber, first, sheetImage, sheetNumber}
 use Rattle.sheet.proofs.Answer.{Passing, passing}
 use Rattle.sheet.proofs.Image.{image-sizes, image-word}
@@ -99,9 +95,6 @@ module _ (z : Sizes) (s : List ℕ) (i : ℕ) (f : lineFault z s i ≡ 0) where
   }
 
 -- ---- the sheet
-table-rounding : (kind : ℕ) → isTableEntry kind ≡ true → roundingOf kind ≡ Nearest
-table-rounding kind t = rw t
-
 module _ (s : List ℕ) (e : sheetNumber s ≡ 0) where
   abbrev p : Passing s
   p = passing s e
@@ -118,14 +111,6 @@ module _ (s : List ℕ) (e : sheetNumber s ≡ 0) where
   words-rounded i =
       rw (image-sizes s p)
       (λ (h : i < bodyCount (p .sizes)). line-facts (p .sizes) s i (passes .0 i (omega (arith, total-is (p .sizes)))) (image-word s p i h))
-
-  -- those of the tables are the nearest
-  pub tables-nearest : NearestTables (sizesOf (sheetImage s)) s
-  tables-nearest i h t =
-      let z = sizesOf (sheetImage s) in
-      let r = words-rounded i h in
-      let n : roundingOf (dueAt z i .kind) ≡ Nearest = table-rounding (dueAt z i .kind) (subst (λ (k : ℕ). isTableEntry k ≡ true) (r .kind) t) in
-      subst (IsNearestCount (z .b) (doubleAt s i)) (sym (r .word ∙ ap (λ (u : Rounding). rounded (ruleOf u) (z .b) (doubleAt s i)) n)) (nearest-count (z .b) (doubleAt s i) (r .scales))
 
   -- no line is missing, and no byte follows the last
   pub sheet-length : length s ≡ 23 * (1 + bodyCount (sizesOf (sheetImage s)))

@@ -1,21 +1,24 @@
 -- What the laws of a sheet state. Definitions only.
 use Prim.Native.Nat.{ℕ, _+_, _*_, _/_, _%_, _<_}
 use mathlib.Core.Path.{_≡_}
-use mathlib.Core.Bool.{true}
+use mathlib.Core.Bool.{Bool, true, _||_}
 use mathlib.Core.List.{List}
+use lib.Dec.{eqb}
 use lib.IntN.{ℤ}
 use lib.Ieee.{Float, binary64, ofBits}
 use Rattle.word.specs.Word.{wordAt}
 use Rattle.hex.specs.Hex.{hexAt}
 use Rattle.double.specs.Double.{scalable, rounded, ruleOf, roundUp, roundDown}
-use Rattle.double.specs.Nearest.{IsNearestCount}
+use Rattle.double.specs.Nearest.{IsRoundedCount}
+use Rattle.double.specs.declared.Rounding.{Rounding}
+use Rattle.double.specs.declared.Rounding.the-variants.{Down, Up, Nearest}
 use Rattle.image.specs.declared.Sizes.{Sizes}
 use Rattle.image.specs.Sizes.{bodyCount, commandCount}
 use Rattle.image.specs.Layout.{lowerAt, upperAt}
 use Rattle.line.specs.Line.{lineAt}
 use Rattle.frame.specs.declared.Head.{Head}
 use Rattle.frame.specs.declared.Head.the-variants.{Sized, Unsized}
-use Rattle.frame.specs.Frame.{dueAt, headOf, isTableEntry, lowBase, roundingOf, total}
+use Rattle.frame.specs.Frame.{dueAt, headOf, isInputLimit, isTableEntry, lowBase, roundingOf, total}
 use Rattle.sheet.specs.Sheet.{sheetImage}
 
 -- ---- a line and its word
@@ -32,10 +35,23 @@ pub record Rounded (z : Sizes) (s : List ℕ) (i : ℕ) : Type 0 where
   pub scales : scalable (z .b) (doubleAt s i) ≡ true
   pub word : wordAt (sheetImage s) (4 * (8 + i)) ≡ rounded (ruleOf (roundingOf (dueAt z i .kind))) (z .b) (doubleAt s i)
 
--- the tables, "02, 03 and 08 .. to the nearest whole count": where the line of word 8 + i is of one, the word is the nearest to the line's double
+-- where the line of word 8 + i is of some kinds, the word is the line's double, rounded
+abbrev pub KindsRounded : (ℕ → Bool) → Rounding → Sizes → List ℕ → Type 0
+KindsRounded kinds how z s =
+    (i : ℕ) → i < bodyCount z → kinds (hexAt 2 s (23 * (i + 1))) ≡ true → IsRoundedCount how (z .b) (doubleAt s i) (wordAt (sheetImage s) (4 * (8 + i)))
+
+-- the tables, "02, 03 and 08 .. to the nearest whole count"
 abbrev pub NearestTables : Sizes → List ℕ → Type 0
-NearestTables z s =
-    (i : ℕ) → i < bodyCount z → isTableEntry (hexAt 2 s (23 * (i + 1))) ≡ true → IsNearestCount (z .b) (doubleAt s i) (wordAt (sheetImage s) (4 * (8 + i)))
+NearestTables = KindsRounded isTableEntry Nearest
+
+-- "04 up, .. 06 up, 07 up", and 09 "treated as 07": low limits go inward, β up, limits of state and target outward, each by less
+-- than a count
+abbrev pub RaisedNumbers : Sizes → List ℕ → Type 0
+RaisedNumbers = KindsRounded (λ (kind : ℕ). eqb kind 4 || eqb kind 6 || isInputLimit kind) Up
+
+-- "05 down": high limits go inward
+abbrev pub LoweredHighs : Sizes → List ℕ → Type 0
+LoweredHighs = KindsRounded (λ (kind : ℕ). eqb kind 5) Down
 
 -- ---- the limits of a command
 
