@@ -44,7 +44,7 @@ pub record LineSays (z : Sizes) (s : List ℕ) (i : ℕ) : Type 0 where
 abbrev pub keptLine : List ℕ → ℕ → List ℕ
 keptLine page i = part 2 page (44 * i) ++ part 4 page (44 * i + 3) ++ part 16 page (44 * i + 25) ++ 10 ∷ []
 
--- line 01 of a sheet, and the lines of its page
+-- line 01 of a sheet, which its page leaves out, and the lines of its page
 unfoldable pub keptSheet : List ℕ → List ℕ
 keptSheet s = take 23 s ++ joined (keptLine (sheetPage s)) (designCount s)
 
@@ -53,7 +53,8 @@ abbrev pub keptTwice : List ℕ → ℕ → List ℕ
 keptTwice page i =
     lineFields (part 2 page (44 * i)) (part 4 page (44 * i + 3)) (part 16 page (44 * i + 25)) (part 16 page (44 * i + 25)) 75
 
--- filing the page in the sheet's place loses nothing: the same number and image, and nothing moves again
+-- filing the page in the sheet's place, behind the sheet's own line 01, which is not on the page, loses nothing: the same number and image,
+-- and nothing moves again
 pub record LosesNothing (s : List ℕ) : Type 0 where
   pub number : (room : ℕ) → intakeNumber (keptSheet s) room ≡ intakeNumber s room
   pub image : sheetImage (keptSheet s) ≡ sheetImage s
