@@ -17,9 +17,9 @@ use Rattle.frame.specs.declared.Head.{Head}
 use Rattle.frame.specs.declared.Head.the-variants.{Sized, Unsized}
 use Rattle.frame.specs.declared.Value.{Value}
 use Rattle.frame.specs.declared.Value.the-variants.{Double, Fault}
-use Rattle.frame.specs.Frame.{dueNumber, frameSizes, frameZeros, headFault, headNumberOf, headOf, isDue, isInputLimit, notBelowZero, roundingOf, valueFault, valueOf, wordNumber, wordOf}
+use Rattle.frame.specs.Frame.{dueNumber, frameSizes, frameZeros, headFault, headOf, isDue, isInputLimit, lineOneNumber, notBelowZero, roundingOf, valueFault, valueOf, wordNumber, wordOf}
 
-head-number : (l : Line) → headFault (headOf l) ≡ headNumberOf l
+head-number : (l : Line) → headFault (headOf l) ≡ lineOneNumber l
 unfolding headOf
 head-number End = refl
 head-number Malformed = refl
@@ -54,7 +54,7 @@ word-number z kind x =
     by false false v = refl
 
 -- what the promises say follows from what is given
-pub head-told : (l : Line) {h : Head} → h ≡ headOf l → (h ≡ headOf l) × (headFault h ≡ headNumberOf l)
+pub head-told : (l : Line) {h : Head} → h ≡ headOf l → (h ≡ headOf l) × (headFault h ≡ lineOneNumber l)
 head-told l e = (e, ap headFault e ∙ head-number l)
 
 pub value-told : (d : Due) (l : Line) {v : Value} → v ≡ valueOf d l → (v ≡ valueOf d l) × (valueFault v ≡ dueNumber d l)

@@ -54,10 +54,10 @@ headFault (Sized z) = 0
 headFault (Unsized n) = n
 
 -- the number of line 01: that of the line, 2 for "only the kind", and "the other two 0 bytes", 3 for "a size outside the ranges"
-abbrev pub headNumberOf : Line → ℕ
-headNumberOf End = lineNumber End
-headNumberOf Malformed = lineNumber Malformed
-headNumberOf (Frame kind row column bits) =
+abbrev pub lineOneNumber : Line → ℕ
+lineOneNumber End = lineNumber End
+lineOneNumber Malformed = lineNumber Malformed
+lineOneNumber (Frame kind row column bits) =
     firstFault (check 2 (eqb kind 1) ∷ check 2 (frameZeros bits) ∷ check 3 (sound (frameSizes row column bits)) ∷ [])
 
 -- ---- the lines due after it
@@ -175,21 +175,21 @@ valueOf d End = Fault (lineNumber End)
 valueOf d Malformed = Fault (lineNumber Malformed)
 valueOf d (Frame kind row column bits) = cond (isDue d kind row column) (Double (ofBits binary64 bits)) (Fault 2)
 
--- document 01's number for each case of `Value`: a double goes with 0, a fault with its own
+-- document 01's number for each case of `Value`: a double, not yet converted, goes with 0, a fault with its own
 abbrev pub valueFault : Value → ℕ
 valueFault (Double x) = 0
 valueFault (Fault n) = n
+
+-- and once converted: a double goes with the number of its conversion, 0 or 5
+abbrev pub valueNumber : Sizes → ℕ → Value → ℕ
+valueNumber z kind (Double x) = convertedNumber (wordOf z kind x)
+valueNumber z kind (Fault n) = n
 
 -- the number of a line where d is due: that of the line, or 2 for "not the kind, row and column due here"
 abbrev pub dueNumber : Due → Line → ℕ
 dueNumber d End = lineNumber End
 dueNumber d Malformed = lineNumber Malformed
 dueNumber d (Frame kind row column bits) = firstFault (check 2 (isDue d kind row column) ∷ [])
-
--- and once its double is converted: a double goes with that number, 0 or 5
-abbrev pub valueNumber : Sizes → ℕ → Value → ℕ
-valueNumber z kind (Double x) = convertedNumber (wordOf z kind x)
-valueNumber z kind (Fault n) = n
 
 -- the double of each case; plus zero where there is none
 abbrev pub valueDouble : Value → Float

@@ -3,7 +3,7 @@ ghost use mathlib.Core.Path.{_≡_};
 ghost use Prim.Native.Nat.{_<_};
 ghost use Rattle.image.specs.Sizes.{Sound};
 ghost use Rattle.double.specs.Double.{convertedNumber};
-ghost use Rattle.frame.specs.Frame.{frameSizes, headOf, headFault, headNumberOf, total, due, dueAt, roundingOf, notBelowZero, wordOf, wordNumber, valueOf, valueFault, dueNumber};
+ghost use Rattle.frame.specs.Frame.{frameSizes, headOf, headFault, lineOneNumber, total, due, dueAt, roundingOf, notBelowZero, wordOf, wordNumber, valueOf, valueFault, dueNumber};
 use double::Converted;
 use double::Rounding;
 use image::Sizes;
@@ -45,7 +45,7 @@ fn frame_sizes(row: usize, column: usize, bits: u64) -> Sizes
 
 // What line 01 gives.
 pub fn head_of(l: Line) -> Head
-    ensures { λ r. ⌜ (r ≡ headOf l) × (headFault r ≡ headNumberOf l) ⌝ }
+    ensures { λ r. ⌜ (r ≡ headOf l) × (headFault r ≡ lineOneNumber l) ⌝ }
 {
     match l {
         Line::Frame {
