@@ -12,7 +12,7 @@ use Rattle.frame.specs.declared.Head.{Head}
 use Rattle.frame.specs.declared.Head.the-variants.{Sized, Unsized}
 use Rattle.frame.specs.Frame.{headOf, total}
 use Rattle.lines.specs.Lines.{lineWord}
-use Rattle.sheet.specs.Laws.{reach, reachOf}
+use Rattle.sheet.specs.Laws.{driveRoom, reach, reachOf}
 use Rattle.sheet.proofs.Reach.{enough-image, enough-lines, reach-most, same-head, value-take}
 use Rattle.intake.proofs.Laws.{design-cong}
 use Rattle.design_page.specs.Page.{designCount, headCount, headPage, pageLine, pageNumber, sheetPage}
@@ -26,7 +26,7 @@ by-head s m (Sized z) h = joined-cong (pageLine z (take m s)) (pageLine z s) (to
 by-head s m (Unsized n) h = refl
 
 -- ---- so many bytes decide any page
-module _ (s : List ℕ) (m : ℕ) (h : 12927 ≤ m) where
+module _ (s : List ℕ) (m : ℕ) (h : driveRoom ≤ m) where
   near : reach s ≤ m
   near = le-trans (reach-most s) h
 

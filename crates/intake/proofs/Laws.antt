@@ -9,7 +9,7 @@ use borrow.Author.Tests.{eqb-true, eqb-false}
 use lib.Dec.{eqb}
 use Rattle.image.proofs.Ordering.{none}
 use Rattle.interface.specs.Tables.{imageNumber}
-use Rattle.sheet.specs.Laws.{reach}
+use Rattle.sheet.specs.Laws.{driveRoom, reach}
 use Rattle.sheet.specs.Reading.{Answered}
 use Rattle.sheet.specs.Sheet.{sheetImage, sheetNumber, sheetWords}
 use Rattle.sheet.proofs.Answer.{image-length, passing}
@@ -47,7 +47,7 @@ intake-cong s t n i room = rw (design-cong s t n i, i)
 pub same-intake : (s t : List ℕ) → take (reach s) s ≡ take (reach s) t → (room : ℕ) → intakeNumber s room ≡ intakeNumber t room
 same-intake s t e = intake-cong s t (same-number s t e) (same-image s t e)
 
-pub enough-number : (s : List ℕ) (m : ℕ) → 12927 ≤ m → (room : ℕ) → intakeNumber (take m s) room ≡ intakeNumber s room
+pub enough-number : (s : List ℕ) (m : ℕ) → driveRoom ≤ m → (room : ℕ) → intakeNumber (take m s) room ≡ intakeNumber s room
 enough-number s m h = intake-cong (take m s) s (enough-lines s m h) (enough-image s m h)
 
 -- ---- a buffer of the image's length, read before: 15 cannot occur

@@ -19,7 +19,7 @@ use Rattle.frame.specs.Frame.{convertedWord, dueAt, headOf, total, valueDouble,
 use Rattle.frame.proofs.Sized.{head-sound}
 use Rattle.frame.proofs.Laws.{total-high}
 use Rattle.lines.specs.Lines.{lineFault, lineValue, lineWord, sizeWords}
-use Rattle.sheet.specs.Laws.{reach, reachOf}
+use Rattle.sheet.specs.Laws.{driveRoom, reach, reachOf}
 use Rattle.sheet.specs.Sheet.{endNumber, first, headNumber, headWords, linesNumber, linesWords, sheetImage, sheetNumber, sheetWords}
 
 pub first-cong : (f g : ℕ → ℕ) (n e d : ℕ) → ((k : ℕ) → k < n → f k ≡ g k) → e ≡ d → first f n e ≡ first g n d
@@ -88,17 +88,17 @@ module _ (s t : List ℕ) (e : take (reach s) s ≡ take (reach s) t) where
   pub same-image : sheetImage s ≡ sheetImage t
   same-image = sym (take-image s (reach s) (omega arith)) ∙ ap sheetImage e ∙ take-image t (reach s) (omega (arith, same-reach))
 
--- ---- the largest sheet: 562 lines of 23 bytes
-pub reach-most : (s : List ℕ) → reach s ≤ 12927
+-- ---- the largest sheet
+pub reach-most : (s : List ℕ) → reach s ≤ driveRoom
 unfolding reach
 reach-most s = by (headOf (lineAt s 0)) refl
   where
-    by : (h : Head) → headOf (lineAt s 0) ≡ h → reachOf h ≤ 12927
+    by : (h : Head) → headOf (lineAt s 0) ≡ h → reachOf h ≤ driveRoom
     by (Sized z) e = omega (arith, total-high z (head-sound (lineAt s 0) z e))
     by (Unsized n) e = omega arith
 
 -- so that many bytes decide any sheet
-module _ (s : List ℕ) (m : ℕ) (h : 12927 ≤ m) where
+module _ (s : List ℕ) (m : ℕ) (h : driveRoom ≤ m) where
   pub enough-lines : sheetNumber (take m s) ≡ sheetNumber s
   enough-lines = take-number s m (le-trans (reach-most s) h)
 

@@ -77,3 +77,7 @@ reachOf (Unsized n) = 23
 
 unfoldable pub reach : List ℕ → ℕ
 reach s = reachOf (headOf (lineAt s 0))
+
+-- how much of drive.hex a program reads: one byte more than the largest sheet has, 562 lines of 23 bytes
+abbrev pub driveRoom : ℕ
+driveRoom = 23 * 562 + 1

@@ -15,3 +15,10 @@ isWordFile count file = eqb (length file) (8 * count + 1) && (eqb (getD file (8 
 -- its words, "big-endian" as a solve takes them
 unfoldable pub fileWords : ℕ → List ℕ → List ℕ
 fileWords count file = joined (λ (i : ℕ). bytesOf (hexAt 8 file (8 * i))) count
+
+-- how much of state.hex and target.hex the label program reads: one byte more than the largest good file has, 12 and 4 words and byte 10
+abbrev pub stateRoom : ℕ
+stateRoom = 8 * 12 + 2
+
+abbrev pub targetRoom : ℕ
+targetRoom = 8 * 4 + 2
