@@ -11,6 +11,7 @@ use Rattle.word.proofs.Words.{length-words-at}
 use Rattle.gradient.specs.Demand.{Demand3, FirstSweep, inputsWithin, startWithin}
 use Rattle.gradient.proofs.Demand as theorem
 use Rattle.gradient.proofs.Append.{every2-append}
+use Rattle.gradient.proofs.Sizes.{matrix-sized}
 use Rattle.gradient.proofs.Tests.{of-true}
 use Rattle.image.specs.declared.Sizes.{Sizes}
 use Rattle.image.specs.declared.Input.{Input}
@@ -78,7 +79,7 @@ cold-room image room e =
 module _ (image state target start : List ℕ) (s : Solvable image state target start) where
   pub all-claims : Demand3 (problemOf image) (inputsOf (sizesOf image) state target) (startOf (sizesOf image) start)
   all-claims =
-      theorem.demand3 (problemOf image) (inputsOf (sizesOf image) state target) (startOf (sizesOf image) start) (s .accepted .format) (s .accepted .order) (s .accepted .room) (s .inputs) (s .starts)
+      theorem.demand3 (problemOf image) (inputsOf (sizesOf image) state target) (startOf (sizesOf image) start) (s .accepted .format) (matrix-sized (problemOf image) (s .accepted .sized)) (s .accepted .order) (s .accepted .room) (s .inputs) (s .starts)
 
   pub claims : SolveClaim image state target start
   unfolding SolveClaim Demand3

@@ -12,12 +12,12 @@ use Rattle.gradient.specs.Demand.{Demand3}
 use Rattle.gradient.proofs.Index.{all1-at}
 use Rattle.gradient.proofs.Lengths.{iterate-z-length, error-e-length}
 use Rattle.gradient.proofs.Tests.{start-length}
-use Rattle.gradient.proofs.Demand.{demand3}
 use Rattle.gradient.proofs.Sizes.{word-fits}
 use Rattle.image.specs.Sizes.{commandCount}
 use Rattle.image.specs.Layout.{sizesOf, problemOf}
 use Rattle.interface.specs.Calls.{inputsOf, startOf, commandsAfter, boundsAfter}
 use Rattle.interface.specs.Accepted.{Accepted, Solvable}
+use Rattle.interface.proofs.Demand.{all-claims}
 use Rattle.loading.proofs.Tables.{count-is}
 use Rattle.solve.specs.Reached.{CommandsOf, BoundsOf}
 
@@ -38,7 +38,7 @@ module _ {image state target start : List ℕ} (ok : Solvable image state target
   unfolding commandsAfter Demand3
   commands-fit i h =
       word-fits (problemOf image) (ok .accepted .sized) _
-      (all1-at (demand3 (problemOf image) (inputsOf (sizesOf image) state target) (startOf (sizesOf image) start) (ok .accepted .format) (ok .accepted .order) (ok .accepted .room) (ok .inputs) (ok .starts) k .inRange k (omega arith) .z-word) (pos 0) i h)
+      (all1-at (all-claims image state target start ok k .inRange k (omega arith) .z-word) (pos 0) i h)
 
 module _ {image : List ℕ} (ok : Accepted image) (k n : ℕ) (e : n ≡ commandCount (sizesOf image)) where
   pub few : n ≤ 16

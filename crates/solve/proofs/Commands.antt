@@ -22,7 +22,7 @@ use Rattle.gradient.proofs.Lengths.{iterate-z-length, iterate-y-length}
 use Rattle.gradient.proofs.Tests.{start-length}
 use Rattle.gradient.proofs.Demand.{demand3}
 use Rattle.gradient.proofs.Settled.{commands-settled, same-iterate}
-use Rattle.gradient.proofs.Sizes.{F-most, word-abs}
+use Rattle.gradient.proofs.Sizes.{F-most, matrix-sized, word-abs}
 use Rattle.image.specs.Sizes.{commandCount}
 use Rattle.image.specs.Layout.{sizesOf, problemOf}
 use Rattle.interface.specs.Calls.{inputsOf, startOf, commandsAfter}
@@ -64,7 +64,7 @@ module _ {p : Problem} {inputs start : List ℤ} (m : List (List ℤ)) {t : Comm
   -- demand 3, of the iterates so far
   in-range : (k : ℕ) → InRange p inputs (iterate p inputs start k)
   unfolding Demand3
-  in-range k = demand3 p inputs start (chk .format) (chk .order) (chk .room) (chk .inputs-in) (chk .starts-in) k .inRange k (omega arith)
+  in-range k = demand3 p inputs start (chk .format) (matrix-sized p (chk .sized)) (chk .order) (chk .room) (chk .inputs-in) (chk .starts-in) k .inRange k (omega arith)
 
   linear-fits : (i : ℕ) → i < N → InWord p (linear p inputs (command p i))
   linear-fits i h = all1-at (in-range 0 .linear-word) nothing i h
