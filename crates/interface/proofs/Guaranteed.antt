@@ -1,4 +1,5 @@
--- The bytes of a solve's answer say the commands and bounds of the definitions, so demand 3 holds of what is answered. Assumes nothing.
+-- The bytes of a solve's answer say the commands and bounds of the definitions, so demand 3 holds of what is answered, and its commands are
+-- an accepted start. Assumes nothing.
 use mathlib.Core.Path.{_≡_, refl, sym, ap, subst, _∙_}
 use mathlib.Core.List.{List, [], _∷_, _++_, map}
 use Prim.Native.Nat.{ℕ, zero, suc, _+_, _*_, _^_, _<_}
@@ -15,14 +16,16 @@ use Rattle.gradient.specs.Demand.{Bounded, Claim, Demand3}
 use Rattle.gradient.proofs.Index.{all1-at, tab-list}
 use Rattle.gradient.proofs.Lengths.{iterate-z-length, error-e-length}
 use Rattle.gradient.proofs.Sizes.{word-fits, e-fits}
-use Rattle.gradient.proofs.Tests.{start-length}
+use Rattle.gradient.proofs.Tests.{start-length, all-start}
 use Rattle.image.specs.Sizes.{commandCount}
 use Rattle.image.specs.Layout.{sizesOf, problemOf, commandAt}
-use Rattle.interface.specs.Calls.{inputsOf, startOf, commandsAfter, boundsAfter, solveAnswer}
+use Rattle.interface.specs.Calls.{inputsOf, startOf, commandsAfter, boundsAfter, answerAfter, solveNumber, solveAnswer}
 use Rattle.interface.specs.Accepted.{Solvable}
 use Rattle.interface.specs.Demand.{answeredCommands, answeredBounds, Guarantee}
+use Rattle.interface.specs.Stop.{StartsAgain}
 use Rattle.interface.proofs.Accept.{commands-length}
-use Rattle.interface.proofs.Demand.{all-claims}
+use Rattle.interface.proofs.Demand.{solvable, all-claims}
+use Rattle.interface.proofs.Stop.{written-start}
 
 -- ---- reading what was written
 -- unsigned words in a row
@@ -76,34 +79,34 @@ module _ (image state target start : List ℕ) (s : Solvable image state target 
   unfolding problemOf
   size = commands-length (sizesOf image) image
 
-  claim : Claim (problemOf image) (inputsOf (sizesOf image) state target) (startOf (sizesOf image) start) sweeps
+  claim : (k : ℕ) → Claim (problemOf image) (inputsOf (sizesOf image) state target) (startOf (sizesOf image) start) k
   unfolding Demand3
-  claim = all-claims image state target start s sweeps
+  claim k = all-claims image state target start s k
 
-  z-length : length (commandsAfter image state target start sweeps) ≡ n
+  z-length : (k : ℕ) → length (commandsAfter image state target start k) ≡ n
   unfolding commandsAfter
-  z-length =
-      iterate-z-length (problemOf image) (inputsOf (sizesOf image) state target) (startOf (sizesOf image) start) (start-length (problemOf image) (startOf (sizesOf image) start) (s .starts)) sweeps
+  z-length k =
+      iterate-z-length (problemOf image) (inputsOf (sizesOf image) state target) (startOf (sizesOf image) start) (start-length (problemOf image) (startOf (sizesOf image) start) (s .starts)) k
       ∙ size
 
   e-length : length (boundsAfter image sweeps) ≡ n
   unfolding boundsAfter
   e-length = error-e-length (problemOf image) sweeps ∙ size
 
-  z-words : Words (commandsAfter image state target start sweeps)
+  z-words : (k : ℕ) → Words (commandsAfter image state target start k)
   unfolding commandsAfter
-  z-words i h = word-fits (problemOf image) (s .accepted .sized) _ (all1-at (claim .inRange sweeps (omega arith) .z-word) (pos 0) i h)
+  z-words k i h = word-fits (problemOf image) (s .accepted .sized) _ (all1-at (claim k .inRange k (omega arith) .z-word) (pos 0) i h)
 
   commands-said : answeredCommands n (solveAnswer image state target start) ≡ commandsAfter image state target start sweeps
   unfolding answeredCommands solveAnswer
-  commands-said = rw (← z-length) (front-words (commandsAfter image state target start sweeps) (wordsOut (map pos (boundsAfter image sweeps))) z-words)
+  commands-said = rw (← z-length sweeps) (front-words (commandsAfter image state target start sweeps) (wordsOut (map pos (boundsAfter image sweeps))) (z-words sweeps))
 
   bounds-said : answeredBounds n (solveAnswer image state target start) ≡ boundsAfter image sweeps
   unfolding answeredBounds solveAnswer
   bounds-said =
       let zs = commandsAfter image state target start sweeps in
       let es = boundsAfter image sweeps in
-      subst (λ (m : ℕ). tab (λ (i : ℕ). natAt (wordsOut zs ++ wordsOut (map pos es)) (4 * m + 4 * i)) n ≡ es) z-length
+      subst (λ (m : ℕ). tab (λ (i : ℕ). natAt (wordsOut zs ++ wordsOut (map pos es)) (4 * m + 4 * i)) n ≡ es) (z-length sweeps)
       (subst (λ (m : ℕ). tab (λ (i : ℕ). natAt (wordsOut zs ++ wordsOut (map pos es)) (4 * length zs + 4 * i)) m ≡ es) e-length
       (behind-naturals zs es small))
     where
@@ -113,6 +116,23 @@ module _ (image state target start : List ℕ) (s : Solvable image state target 
   pub guaranteed : Guarantee image state target start (solveAnswer image state target start)
   unfolding Bounded commandsAfter boundsAfter
   guaranteed = record {
-    limits = rw commands-said (claim .bounded);
-    distance = rw (commands-said, bounds-said) (claim .within);
+    limits = rw commands-said (claim sweeps .bounded);
+    distance = rw (commands-said, bounds-said) (claim sweeps .within);
   }
+
+  -- ---- the commands' bytes as a start, after any number of sweeps
+  module _ (k : ℕ) where
+    front : take (4 * n) (answerAfter image state target start k) ≡ wordsOut (commandsAfter image state target start k)
+    front =
+        let zs = commandsAfter image state target start k in
+        take-at (wordsOut zs) (wordsOut (map pos (boundsAfter image k))) (4 * n) (length-words zs ∙ ap (λ (m : ℕ). 4 * m) (z-length k))
+
+    pub starts-after : StartsAgain image (answerAfter image state target start k)
+    unfolding Bounded commandsAfter
+    starts-after =
+        rw front
+        (written-start image (commandsAfter image state target start k) (z-length k) (z-words k) (all-start (problemOf image) (commandsAfter image state target start k) (claim k .bounded)))
+
+pub starts-again : (image state target start : List ℕ) (room : ℕ) → solveNumber image state target start room ≡ 0 → StartsAgain image (solveAnswer image state target start)
+unfolding solveAnswer
+starts-again image state target start room e = starts-after image state target start (solvable image state target start room e .0) (sizesOf image .sweeps)

@@ -5,7 +5,7 @@ use mathlib.Core.Path.{_≡_, refl, sym, ap, _∙_}
 use Prim.Native.Nat.{ℕ, suc, _*_}
 use native.Mathlib.Omega.{arith}
 use lib.Dec.{leb, lit≤}
-use lib.IntN.{pos}
+use lib.IntN.{ℤ, pos}
 use lib.ListN.{length, replicate}
 use lib.Signed.{leZ, leZ-yes}
 use borrow.Author.Tests.{leb-true, le-leb}
@@ -46,21 +46,22 @@ pub all-zeros : (image : List ℕ) → AllZeros image
 unfolding coldAnswer coldStart problemOf
 all-zeros image = words-zero (problemOf image .commands) ∙ ap (λ (n : ℕ). replicate (4 * n) 0) (commands-length (sizesOf image) image)
 
--- ---- the cold start of an accepted image is an accepted start
+-- ---- commands within the limits, written as bytes, are an accepted start
+pub written-start : (image : List ℕ) (zs : List ℤ) → length zs ≡ commandCount (sizesOf image) → Words zs → startWithin (problemOf image) zs ≡ true
+    → AcceptedStart image (wordsOut zs)
+unfolding startOf
+written-start image zs n w e = record {
+  size = length-words zs ∙ ap (λ (m : ℕ). 4 * m) n;
+  within = ap (startWithin (problemOf image)) (ap (wordsAt (wordsOut zs) 0) (sym n) ∙ words-back zs w) ∙ e;
+}
+
+-- so is the cold start of an accepted image
 cold-words : (p : Problem) → Words (coldStart p)
 cold-words p i h = rw (coldStart-at p i) (sfits-abs (pos 0) (lit≤ {m = 0} {n = 0} tt) (omega arith))
 
-cold-read : (image : List ℕ) → startOf (sizesOf image) (coldAnswer image) ≡ coldStart (problemOf image)
-unfolding startOf coldAnswer
-cold-read image =
-    ap (wordsAt (wordsOut (coldStart (problemOf image))) 0) (sym (count image)) ∙ words-back (coldStart (problemOf image)) (cold-words (problemOf image))
-
 pub cold-start-accepted : (image : List ℕ) → imageNumber image ≡ 0 → AcceptedStart image (coldAnswer image)
 unfolding coldAnswer
-cold-start-accepted image e = record {
-  size = length-words (coldStart (problemOf image)) ∙ ap (λ (n : ℕ). 4 * n) (count image);
-  within = ap (startWithin (problemOf image)) (cold-read image) ∙ is-true _ (accepted image e .stop);
-}
+cold-start-accepted image e = written-start image (coldStart (problemOf image)) (count image) (cold-words (problemOf image)) (is-true _ (accepted image e .stop))
 
 -- ---- P is at most Y
 module _ (z : Sizes) (s : List ℕ) (i : ℕ) (e : stopTest z s i ≡ true) where

@@ -1,10 +1,10 @@
--- "Stop must be possible", request 6: what check 17 and a cold start of all zeros come to, as statements. Definitions only.
+-- "Stop must be possible", request 6: what check 17 and a cold start of all zeros come to, as statements; accepted starts. Definitions only.
 use mathlib.Core.Bool.{true}
 use mathlib.Core.List.{List}
 use mathlib.Core.Path.{_≡_}
 use Prim.Native.Nat.{ℕ, _*_}
 use lib.Dec.{leb}
-use lib.ListN.{length, replicate}
+use lib.ListN.{length, take, replicate}
 use Rattle.word.specs.Format.{top}
 use Rattle.gradient.specs.Index.{allTo}
 use Rattle.gradient.specs.Problem.{coldStart}
@@ -29,6 +29,10 @@ AllZeros image = coldAnswer image ≡ replicate (4 * commandCount (sizesOf image
 pub record AcceptedStart (image start : List ℕ) : Type 0 where
   pub size : length start ≡ 4 * commandCount (sizesOf image)
   pub within : startWithin (problemOf image) (startOf (sizesOf image) start) ≡ true
+
+-- the "n commands" of an answer, its first 4n bytes, are an accepted start: the next solve can go on from them
+abbrev pub StartsAgain : List ℕ → List ℕ → Type 0
+StartsAgain image answer = AcceptedStart image (take (4 * commandCount (sizesOf image)) answer)
 
 -- of P and Y in 12, Y alone decides
 abbrev pub YDecides : Sizes → List ℕ → ℕ → Type 0
