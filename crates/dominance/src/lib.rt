@@ -1,12 +1,14 @@
 // Check 8 of a row of H, its symmetry, and what 9 to 11 take of it: its margin and its total.
 ghost use mathlib.Core.Path.{_≡_};
 ghost use mathlib.Core.Bool.{cond};
-ghost use Prim.Native.Nat.{_^_, _≤_, _<_};
+ghost use Prim.Native.Nat.{_+_, _*_, _^_, _≤_, _<_};
 ghost use lib.Dec.{eqb};
+ghost use lib.ListN.{length};
 ghost use lib.IntN.{pos, natAbs};
+ghost use Rattle.word.specs.Word.{wordAt};
 ghost use Rattle.image.specs.Sizes.{Whole, commandCount};
 ghost use Rattle.image.specs.Layout.{costAt};
-ghost use Rattle.interface.specs.Tables.{eqZ, othersAt, marginAt, totalAt, symmetryTest};
+ghost use Rattle.interface.specs.Tables.{eqZ, othersOf, marginAt, totalAt, symmetryTest};
 use image::Sizes;
 
 // The margin and the total of a row.
@@ -32,27 +34,26 @@ fn cost_at(image: &[u8], z: Sizes, i: usize, j: usize) -> i64
     word::word_at(&image[at..], 4 * j)
 }
 
-// The magnitude of entry j of row i of H, 0 on the diagonal.
-fn other_at(image: &[u8], z: Sizes, i: usize, j: usize) -> u64
-    requires { ⌜ Whole z (now image) × ((i < commandCount z) × (j < commandCount z)) ⌝ }
-    ensures { λ r. ⌜ (r ≡ cond (eqb i j) 0 (natAbs (costAt z (now (image .entry)) i j))) × (r ≤ 2 ^ 31) ⌝ }
+// The magnitude of entry j of row i of H, 0 on the diagonal, from the part of the image that starts at that row.
+fn other_at(row: &[u8], i: usize, j: usize) -> u64
+    requires { ⌜ 4 * j + 4 ≤ length (now row) ⌝ }
+    ensures { λ r. ⌜ (r ≡ cond (eqb i j) 0 (natAbs (wordAt (now (row .entry)) (4 * j)))) × (r ≤ 2 ^ 31) ⌝ }
 {
     if i == j {
         return 0;
     }
-    integer::magnitude(cost_at(image, z, i, j))
+    integer::magnitude(word::word_at(row, 4 * j))
 }
 
-// The sum of the magnitudes off the diagonal of row i of H.
-fn others(image: &[u8], z: Sizes, i: usize) -> u64
-    requires { ⌜ Whole z (now image) × (i < commandCount z) ⌝ }
-    ensures { λ r. ⌜ (r ≡ othersAt z (now (image .entry)) i) × (r ≤ 2 ^ 35) ⌝ }
+// The sum of the magnitudes off the diagonal of row i of H, from that part.
+fn others(row: &[u8], i: usize, n: usize) -> u64
+    requires { ⌜ (n ≤ 16) × (4 * n ≤ length (now row)) ⌝ }
+    ensures { λ r. ⌜ (r ≡ othersOf (now (row .entry)) i n) × (r ≤ 2 ^ 35) ⌝ }
 {
-    let n = z.nu * z.steps;
     let mut s: u64 = 0;
     let mut j = 0;
     while j < n {
-        s += other_at(image, z, i, j);
+        s += other_at(row, i, j);
         j += 1;
     }
     s
@@ -63,8 +64,10 @@ pub fn disc_of(image: &[u8], z: Sizes, i: usize) -> Disc
     requires { ⌜ Whole z (now image) × (i < commandCount z) ⌝ }
     ensures { λ r. ⌜ (r .margin ≡ marginAt z (now (image .entry)) i) × (r .total ≡ totalAt z (now (image .entry)) i) ⌝ }
 {
-    let diagonal = cost_at(image, z, i, i);
-    let radius = others(image, z, i) as i64;
+    let at = image::cost_offset(z, i);
+    let row = &image[at..];
+    let diagonal = word::word_at(row, 4 * i);
+    let radius = others(row, i, z.nu * z.steps) as i64;
     let margin = diagonal - radius;
     let total = diagonal + radius;
     Disc { margin, total }

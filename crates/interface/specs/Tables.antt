@@ -6,12 +6,13 @@ use lib.Dec.{eqb, leb}
 use lib.IntN.{ℤ, pos, natAbs, _+ℤ_, _-ℤ_, _*ℤ_}
 use lib.Signed.{leZ}
 use Rattle.word.specs.Format.{top}
+use Rattle.word.specs.Word.{wordAt}
 use Rattle.gradient.specs.Index.{sumN, allTo}
 use Rattle.gradient.specs.Bounds.{rangeP, rangeY, rangeA, rangeB}
 use Rattle.image.specs.declared.Sizes.{Sizes}
 use Rattle.image.specs.Order.{Check, check, firstFault, orElse}
 use Rattle.image.specs.Sizes.{commandCount}
-use Rattle.image.specs.Layout.{sizesOf, costAt, lowerAt, upperAt, momentumAt, commandAt, problemAt}
+use Rattle.image.specs.Layout.{sizesOf, costRow, costAt, lowerAt, upperAt, momentumAt, commandAt, problemAt}
 use Rattle.image.specs.Checks.{headNumber, bodyNumber}
 
 -- ---- 7: "a low above its high"
@@ -30,9 +31,12 @@ unfoldable pub symmetryTest : Sizes → List ℕ → ℕ → Bool
 symmetryTest z s i = allTo (λ (j : ℕ). eqZ (costAt z s i j) (costAt z s j i)) (commandCount z)
 
 -- ---- 9 and 10
--- "the magnitudes of the others" of a row
+-- "the magnitudes of the others" of row i of H, from the part of the image that starts there
+abbrev pub othersOf : List ℕ → ℕ → ℕ → ℕ
+othersOf row i n = sumN (λ (j : ℕ). cond (eqb i j) 0 (natAbs (wordAt row (4 * j)))) n
+
 unfoldable pub othersAt : Sizes → List ℕ → ℕ → ℕ
-othersAt z s i = sumN (λ (j : ℕ). cond (eqb i j) 0 (natAbs (costAt z s i j))) (commandCount z)
+othersAt z s i = othersOf (costRow z s i) i (commandCount z)
 
 -- "the diagonal less the magnitudes of the others"
 unfoldable pub marginAt : Sizes → List ℕ → ℕ → ℤ
