@@ -1,5 +1,6 @@
 -- An array that a loop fills from the front. Assumes nothing.
 use mathlib.Core.Path.{_≡_, refl, sym, ap, _∙_}
+use mathlib.Core.Bool.{Bool, true}
 use mathlib.Core.List.{List}
 use Prim.Native.Nat.{ℕ, _+_, _≤_, _<_}
 use native.Mathlib.Nat.{not-suc-le-zero}
@@ -46,6 +47,28 @@ module _ {A : Type 0} (d : A) (P : ℕ → A → Type 0) where
 -- what is stored is what stood there, in an array that was as before
 pub stored-same : {A : Type 0} (d : A) {old l : List A} (i : ℕ) {v : A} → l ≡ old → v ≡ getD l i d → set l i v ≡ old
 stored-same d {old} {l} i p e = ap (set l i) e ∙ set-getD l i d ∙ p
+
+-- two arrays that a loop fills in place of what they held, and a flag: where it is true, both are as they were
+pub record Storing {A : Type 0} (d : A) (f g : ℕ → A) (n i : ℕ) (x₀ y₀ x y : List A) (same : Bool) : Type 0 where
+  pub first : Replacing d (λ (k : ℕ) (v : A). v ≡ f k) n i x₀ x
+  pub second : Replacing d (λ (k : ℕ) (v : A). v ≡ g k) n i y₀ y
+  pub kept : same ≡ true → (x ≡ x₀) × (y ≡ y₀)
+
+module _ {A : Type 0} (d : A) (f g : ℕ → A) where
+  pub storing-none : (n : ℕ) (x y : List A) (same : Bool) → length x ≡ 16 → length y ≡ 16 → Storing d f g n 0 x y x y same
+  storing-none n x y same e e′ = record { first = replaced-none d _ n x e; second = replaced-none d _ n y e′; kept = λ p. (refl, refl) }
+
+  -- one more of each, the flag going through two tests
+  pub storing-more : {n i : ℕ} {x₀ y₀ x y : List A} {same then same′ : Bool} (v w : A) → n ≤ 16 → i < n → Storing d f g n i x₀ y₀ x y same → v ≡ f i → w ≡ g i
+      → (then ≡ true → (same ≡ true) × (v ≡ getD x i d)) → (same′ ≡ true → (then ≡ true) × (w ≡ getD y i d)) → Storing d f g n (i + 1) x₀ y₀ (set x i v) (set y i w) same′
+  storing-more {i = i} v w few h s p q a b = record {
+    first = replaced-more d _ v few h (s .first) p;
+    second = replaced-more d _ w few h (s .second) q;
+    kept = λ e. let new-y = b e in
+        let new-x = a (new-y .0) in
+        let old = s .kept (new-x .0) in
+        (stored-same d i (old .0) (new-x .1), stored-same d i (old .1) (new-y .1));
+  }
 
 -- two lists of n that one array holds
 pub same-held : {A : Type 0} (d : A) {n : ℕ} {l l′ a a′ : List A} → length l ≡ n → length l′ ≡ n → Filled d n (λ (i : ℕ). getD l i d) a → Filled d n (λ (i : ℕ). getD l′ i d) a′ → a′ ≡ a → l′ ≡ l

@@ -8,14 +8,14 @@ use native.Mathlib.Nat.{le-trans, mul-le-mul}
 use lib.ListN.{getD}
 use Rattle.integer.specs.Round.{ceil}
 use Rattle.integer.proofs.Floor.{ceil-most}
-use Rattle.array.proofs.Filling.{Filling, none, more, full, Replacing, replaced-none, replaced-more, stored-same}
+use Rattle.array.proofs.Filling.{full, Storing, storing-none, storing-more}
 use Rattle.bounds.specs.Steps.{qAt}
 use Rattle.bounds.proofs.store.Statement.{statement}
 use Rattle.bounds.proofs.store.Tie as tie
 
 abbrev Inv-loop : tie.InvT-loop
 Inv-loop t new e₀ q₀ n same₀ i₀ e q same i =
-    Replacing 0 (λ k x. x ≡ getD new k 0) n i e₀ e × (Filling 0 (λ k x. x ≡ qAt t new e₀ k) n i q × (same ≡ true → (e ≡ e₀) × (q ≡ q₀)))
+    Storing 0 (λ k. getD new k 0) (qAt t new e₀) n i e₀ q₀ e q same
 
 abbrev μ-loop : tie.MeasureT-loop
 μ-loop t new e₀ q₀ n same₀ i₀ e q same i = n - i
@@ -35,7 +35,7 @@ module _ (c : tie.In-loop Inv-loop μ-loop) where
   new = a .pre .0 .1 i (omega arith)
 
   e-old : getD (c .before .loop .e) i 0 ≡ getD (a .args .e .now) i 0
-  e-old = c .before .loop .inv .0 .rest i (omega arith)
+  e-old = c .before .loop .inv .first .rest i (omega arith)
 
   old : getD (c .before .loop .e) i 0 < 2 ^ 32
   old = rw e-old (a .pre .1 .0 .0 i (omega arith))
@@ -49,7 +49,7 @@ module _ (c : tie.In-loop Inv-loop μ-loop) where
 loop-holds : tie.Need-loop-holds Inv-loop μ-loop
 loop-holds c =
     let a = c .args in
-    (replaced-none 0 (λ k x. x ≡ getD (a .new .now) k 0) (a .t .n) (a .e .now) (c .pre .1 .0 .1), (none 0 (λ k x. x ≡ qAt (a .t) (a .new .now) (a .e .now) k) (a .t .n) (a .q .now) (c .pre .1 .1), λ p. (refl, refl)))
+    storing-none 0 (λ k. getD (a .new .now) k 0) (qAt (a .t) (a .new .now) (a .e .now)) (a .t .n) (a .e .now) (a .q .now) true (c .pre .1 .0 .1) (c .pre .1 .1)
 
 mul-x : tie.Need-mul-x Inv-loop μ-loop
 mul-x c = omega arith
@@ -121,17 +121,7 @@ loop-again c =
     let d = p .before .before .before .before in
     let s = a d .args in
     let l = d .before .loop in
-    let few = a d .pre .0 .0 .few in
-    let h = d .loop-test .taken in (
-      replaced-more 0 (λ k x. x ≡ getD (s .new .now) k 0) _ few h (l .inv .0) refl,
-      (
-        more 0 (λ k x. x ≡ qAt (s .t) (s .new .now) (s .e .now) k) _ few h (l .inv .1 .0) (rw (p .ceil-div .ensures, e-old d)),
-        λ r. let new-q = c .stays2 .ensures r in
-            let new-e = c .before .before .stays .ensures (new-q .0) in
-            let old = l .inv .1 .1 (new-e .0) in
-            (stored-same 0 (i d) (old .0) (new-e .1), stored-same 0 (i d) (old .1) (new-q .1)),
-      ),
-    )
+    storing-more 0 (λ k. getD (s .new .now) k 0) (qAt (s .t) (s .new .now) (s .e .now)) _ _ (a d .pre .0 .0 .few) (d .loop-test .taken) (l .inv) refl (rw (p .ceil-div .ensures, e-old d)) (c .before .before .stays .ensures) (c .stays2 .ensures)
 
 returns : tie.Need-returns Inv-loop μ-loop
 returns c =
@@ -139,9 +129,9 @@ returns c =
     let h = c .loop-test .left in
     let l = c .before .loop in
     record {
-      new-e = full 0 (λ (k : ℕ). getD (a .new .now) k 0) h (l .inv .0 .filling);
-      new-q = full 0 (qAt (a .t) (a .new .now) (a .e .now)) h (l .inv .1 .0);
-      same = l .inv .1 .1;
+      new-e = full 0 (λ (k : ℕ). getD (a .new .now) k 0) h (l .inv .first .filling);
+      new-q = full 0 (qAt (a .t) (a .new .now) (a .e .now)) h (l .inv .second .filling);
+      same = l .inv .kept;
     }
 
 pub store-spec : {M : Type 1} → statement M

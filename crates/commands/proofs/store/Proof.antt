@@ -9,15 +9,14 @@ use mir.Syntax.{w64}
 use mir.Val.{SFits}
 use mir.Facts.{toZ-ofZ}
 use Rattle.integer.proofs.Machine.{back, fit-abs}
-use Rattle.array.proofs.Filling.{full, Replacing, replaced-none, replaced-more, stored-same}
+use Rattle.array.proofs.Filling.{full, Storing, storing-none, storing-more}
 use Rattle.commands.specs.Steps.{yAt}
 use Rattle.commands.proofs.store.Statement.{statement}
 use Rattle.commands.proofs.store.Tie as tie
 
 abbrev Inv-loop : tie.InvT-loop
 Inv-loop t new z₀ y₀ n same₀ i₀ z y same i =
-    Replacing (pos 0) (λ k x. x ≡ getD new k (pos 0)) n i z₀ z
-    × (Replacing (pos 0) (λ k x. x ≡ yAt t new z₀ k) n i y₀ y × (same ≡ true → (z ≡ z₀) × (y ≡ y₀)))
+    Storing (pos 0) (λ k. getD new k (pos 0)) (yAt t new z₀) n i z₀ y₀ z y same
 
 abbrev μ-loop : tie.MeasureT-loop
 μ-loop t new z₀ y₀ n same₀ i₀ z y same i = n - i
@@ -43,13 +42,13 @@ module _ (c : tie.In-loop Inv-loop μ-loop) where
   x-word = a .pre .0 .1 i (omega arith)
 
   z-old : z ≡ getD (a .args .z .now) i (pos 0)
-  z-old = c .before .loop .inv .0 .rest i (omega arith)
+  z-old = c .before .loop .inv .first .rest i (omega arith)
 
   z-word : natAbs z ≤ 2 ^ 31
   z-word = rw z-old (a .pre .1 .0 .0 i (omega arith))
 
   y-word : natAbs y ≤ 2 ^ 31
-  y-word = rw (c .before .loop .inv .1 .0 .rest i (omega arith)) (a .pre .1 .1 .0 i (omega arith))
+  y-word = rw (c .before .loop .inv .second .rest i (omega arith)) (a .pre .1 .1 .0 i (omega arith))
 
   fx : SFits w64 x
   fx = fit-abs x (omega (arith, x-word))
@@ -71,7 +70,7 @@ module _ (c : tie.After-point Inv-loop μ-loop) where
 loop-holds : tie.Need-loop-holds Inv-loop μ-loop
 loop-holds c =
     let a = c .args in
-    (replaced-none (pos 0) (λ k x. x ≡ getD (a .new .now) k (pos 0)) (a .t .n) (a .z .now) (c .pre .1 .0 .1), (replaced-none (pos 0) (λ k x. x ≡ yAt (a .t) (a .new .now) (a .z .now) k) (a .t .n) (a .y .now) (c .pre .1 .1 .1), λ e. (refl, refl)))
+    storing-none (pos 0) (λ k. getD (a .new .now) k (pos 0)) (yAt (a .t) (a .new .now) (a .z .now)) (a .t .n) (a .z .now) (a .y .now) true (c .pre .1 .0 .1) (c .pre .1 .1 .1)
 
 mul-x : tie.Need-mul-x Inv-loop μ-loop
 mul-x c = omega arith
@@ -132,18 +131,10 @@ loop-again c =
     let d = turn p in
     let s = a d .args in
     let l = d .before .loop in
-    let few = a d .pre .0 .0 .few in
-    let h = d .loop-test .taken in
-    let v = back (p .point .result) (p .point .ok) in (
-      replaced-more (pos 0) (λ k x. x ≡ getD (s .new .now) k (pos 0)) _ few h (l .inv .0) (toZ-ofZ (fx d)),
-      (
-        replaced-more (pos 0) (λ k x. x ≡ yAt (s .t) (s .new .now) (s .z .now) k) _ few h (l .inv .1 .0) (v ∙ made p),
-        λ e. let new-y = c .stays2 .ensures e in
-            let new-z = c .before .before .stays .ensures (new-y .0) in
-            let old = l .inv .1 .1 (new-z .0) in
-            (stored-same (pos 0) (i d) (old .0) (new-z .1 ∙ toZ-ofZ (fz d)), stored-same (pos 0) (i d) (old .1) (new-y .1 ∙ toZ-ofZ (fy d))),
-      ),
-    )
+    let v = back (p .point .result) (p .point .ok) in
+    storing-more (pos 0) (λ k. getD (s .new .now) k (pos 0)) (yAt (s .t) (s .new .now) (s .z .now)) _ _ (a d .pre .0 .0 .few) (d .loop-test .taken) (l .inv) (toZ-ofZ (fx d)) (v ∙ made p)
+    (λ e. let k = c .before .before .stays .ensures e in (k .0, k .1 ∙ toZ-ofZ (fz d)))
+    (λ e. let k = c .stays2 .ensures e in (k .0, k .1 ∙ toZ-ofZ (fy d)))
 
 returns : tie.Need-returns Inv-loop μ-loop
 returns c =
@@ -151,9 +142,9 @@ returns c =
     let h = c .loop-test .left in
     let l = c .before .loop in
     record {
-      new-z = full (pos 0) (λ (k : ℕ). getD (a .new .now) k (pos 0)) h (l .inv .0 .filling);
-      new-y = full (pos 0) (yAt (a .t) (a .new .now) (a .z .now)) h (l .inv .1 .0 .filling);
-      same = l .inv .1 .1;
+      new-z = full (pos 0) (λ (k : ℕ). getD (a .new .now) k (pos 0)) h (l .inv .first .filling);
+      new-y = full (pos 0) (yAt (a .t) (a .new .now) (a .z .now)) h (l .inv .second .filling);
+      same = l .inv .kept;
     }
 
 pub store-spec : {M : Type 1} → statement M
