@@ -20,7 +20,7 @@ fn put_number(page: &mut [u8], s: &[u8], z: Sizes, i: usize, word: i64)
     ensures { λ _. ⌜ now (page .exit) ≡ putAt (now (page .entry)) (44 * i) (pageLine z (now (s .entry)) i) ⌝ }
 {
     let d = frame::due_at(z, i);
-    let x = match frame::value_of(d, line::line_from(s, 23 * (i + 1))) {
+    let x = match frame::value_of(d, line::line_at(s, 23 * (i + 1))) {
         Value::Double(x) => x,
         Value::Fault(_) => return, // no line of an accepted sheet
     };
@@ -56,7 +56,7 @@ pub fn write_page(sheet: &[u8], page: &mut [u8]) -> u32
     if page.len() != 44 * (count - 8) {
         return 15;
     }
-    match frame::head_of(line::line_from(sheet, 0)) {
+    match frame::head_of(line::line_at(sheet, 0)) {
         Head::Sized(z) => put_numbers(page, sheet, z, &words[..count]),
         Head::Unsized(_) => {} // no accepted sheet
     }

@@ -48,7 +48,7 @@ fn cold_start(image: &[u8], n: usize) -> [u8; 64]
 pub fn target_count(drive: &[u8]) -> usize
     ensures { λ r. ⌜ r ≡ targetCount (now (drive .entry)) ⌝ }
 {
-    match frame::head_of(line::line_from(drive, 0)) {
+    match frame::head_of(line::line_at(drive, 0)) {
         Head::Sized(z) => z.nr,
         Head::Unsized(_) => 0,
     }

@@ -1,5 +1,6 @@
 // The lines of a design sheet.
 ghost use mathlib.Core.Path.{_≡_};
+ghost use Prim.Native.Nat.{_+_, _<_, _^_};
 ghost use Rattle.line.specs.Line.{lineAt, lineNumber, numberAt};
 
 // What stands at a place of the text.
@@ -46,23 +47,22 @@ pub struct Reader<'a> {
     pub at: usize,
 }
 
-// A reader at a place.
-pub fn reader_at<'a>(sheet: &'a [u8], at: usize) -> Reader<'a>
-    ensures { λ r. ⌜ (r .sheet ≡ sheet .entry) × (r .at ≡ at) ⌝ }
-{
-    Reader { sheet, at }
+// The line that a reader stood at, and the reader behind it.
+pub struct Step<'a> {
+    pub line: Line,
+    pub rest: Reader<'a>,
 }
 
-// The line that a reader stands at.
-pub fn next<'a>(r: Reader<'a>) -> Line
-    ensures { λ l. ⌜ (l ≡ lineAt (now (r .entry .sheet)) (r .entry .at)) × (lineNumber l ≡ numberAt (now (r .entry .sheet)) (r .entry .at)) ⌝ }
+// The line that a reader stands at, and the reader behind it: a line has 23 bytes.
+pub fn next<'a>(r: Reader<'a>) -> Step<'a>
+    requires { ⌜ r .at + 23 < 2 ^ 64 ⌝ }
+    ensures { λ t. ⌜ (t .line ≡ lineAt (now (r .entry .sheet)) (r .entry .at)) × (lineNumber (t .line) ≡ numberAt (now (r .entry .sheet)) (r .entry .at)) × (t .rest .sheet ≡ r .entry .sheet) × (t .rest .at ≡ r .entry .at + 23) ⌝ }
 {
-    line_at(r.sheet, r.at)
-}
-
-// The line at a place, by way of a reader: what callers use, since its parameters are plain.
-pub fn line_from(s: &[u8], at: usize) -> Line
-    ensures { λ r. ⌜ (r ≡ lineAt (now (s .entry)) at) × (lineNumber r ≡ numberAt (now (s .entry)) at) ⌝ }
-{
-    next(reader_at(s, at))
+    Step {
+        line: line_at(r.sheet, r.at),
+        rest: Reader {
+            sheet: r.sheet,
+            at: r.at + 23,
+        },
+    }
 }

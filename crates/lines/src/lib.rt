@@ -1,7 +1,10 @@
 // The lines after line 01, taken one by one: a low limit is kept as a double until its high limit is read.
 ghost use mathlib.Core.Path.{_≡_};
-ghost use Prim.Native.Nat.{_+_, _<_};
+ghost use mathlib.Core.List.{List};
+ghost use Prim.Native.Nat.{ℕ, _+_, _*_, _<_};
+ghost use lib.ListN.{length};
 ghost use Rattle.image.specs.Sizes.{Sound};
+ghost use Rattle.line.specs.Line.{lineAt};
 ghost use Rattle.frame.specs.Frame.{total};
 ghost use Rattle.lines.specs.Lines.{commandOf, lineFault, ReadTo};
 use double::Converted;
@@ -10,6 +13,7 @@ use double::Limits;
 use frame::Due;
 use frame::Value;
 use image::Sizes;
+use line::Line;
 
 // The command whose limit a line has: its row is the motor, its column the step.
 fn command_of(z: Sizes, d: Due) -> usize
@@ -19,14 +23,14 @@ fn command_of(z: Sizes, d: Due) -> usize
     d.column * z.nu + d.row
 }
 
-// Reads line i after line 01. A low limit is kept as a double until its high limit is read; any other word is stored.
-pub fn take_line(words: &mut [i64; 569], lows: &mut [f64; 16], s: &[u8], z: Sizes, i: usize) -> u32
-    requires { ⌜ Sound z × (i < total z) × ReadTo z (now s) i (now words) (now lows) ⌝ }
-    ensures { λ r. ⌜ (r ≡ lineFault z (now (s .entry)) i) × (r ≡ 0 → ReadTo z (now (s .entry)) (i + 1) (now (words .exit)) (now (lows .exit))) ⌝ }
+// Takes a line as line i after line 01: of every text of which i lines are read and this is the next. A low limit is kept as a double until its high limit is read; any other word is stored.
+pub fn take_line(words: &mut [i64; 569], lows: &mut [f64; 16], l: Line, z: Sizes, i: usize) -> u32
+    requires { ⌜ Sound z × (i < total z) × (length (now words) ≡ 569) × (length (now lows) ≡ 16) ⌝ }
+    ensures { λ r. ⌜ ((s : List ℕ) → l ≡ lineAt s (23 * (i + 1)) → ReadTo z s i (now (words .entry)) (now (lows .entry)) → (r ≡ lineFault z s i) × (r ≡ 0 → ReadTo z s (i + 1) (now (words .exit)) (now (lows .exit)))) ⌝ }
 {
     let n = z.nu * z.steps;
     let d = frame::due_at(z, i);
-    let x = match frame::value_of(d, line::line_from(s, 23 * (i + 1))) {
+    let x = match frame::value_of(d, l) {
         Value::Double(x) => x,
         Value::Fault(fault) => return fault,
     };

@@ -10,7 +10,7 @@ use frame::Head;
 fn design_count(drive: &[u8]) -> usize
     ensures { λ r. ⌜ r ≡ designCount (now (drive .entry)) ⌝ }
 {
-    match frame::head_of(line::line_from(drive, 0)) {
+    match frame::head_of(line::line_at(drive, 0)) {
         Head::Sized(z) => image::body_count(z),
         Head::Unsized(_) => 0,
     }

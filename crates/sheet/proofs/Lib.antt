@@ -2,6 +2,7 @@
 pub mod Whole
 pub mod Fits
 pub mod Answer
+pub mod Through
 pub mod Image
 pub mod Entries
 pub mod ByKind

@@ -25,7 +25,7 @@ module _ (c : tie.After-value-of) where
   st = c .before .before .before .before .before
 
   value : lineValue (st .args .z) (st .args .s .now) (st .args .i) ≡ c .value-of .result
-  value = value-is (st .args .z) (st .args .s .now) (st .args .i) _ _ _ (c .value-of .ensures .0) (c .before .before .due-at .ensures) (c .before .line-from .ensures .0)
+  value = value-is (st .args .z) (st .args .s .now) (st .args .i) _ _ _ (c .value-of .ensures .0) (c .before .before .due-at .ensures) (c .before .line-at .ensures .0)
 
 -- its double and that of its word are compared
 module _ (c : tie.After-effect-of) where
@@ -49,14 +49,14 @@ module _ (c : tie.After-effect-of) where
 due-at-requires : tie.Need-due-at-requires
 due-at-requires c κs = search needs
 
-add-line-from : tie.Need-add-line-from
-add-line-from c = search needs
+add-line-at : tie.Need-add-line-at
+add-line-at c = search needs
 
-mul-line-from : tie.Need-mul-line-from
-mul-line-from c = search needs
+mul-line-at : tie.Need-mul-line-at
+mul-line-at c = search needs
 
-line-from-requires : tie.Need-line-from-requires
-line-from-requires c κs = search needs
+line-at-requires : tie.Need-line-at-requires
+line-at-requires c κs = search needs
 
 value-of-requires : tie.Need-value-of-requires
 value-of-requires c κs = search needs
@@ -110,9 +110,9 @@ put-number-spec =
     tie.close
     (tie.spec
     due-at-requires
-    add-line-from
-    mul-line-from
-    line-from-requires
+    add-line-at
+    mul-line-at
+    line-at-requires
     value-of-requires
     enum-known-x
     enum-told

@@ -37,7 +37,7 @@ module _ (c : tie.After-head-of) where
   passed = c .before .before .before
 
   head-is : c .head-of .result ≡ headOf (lineAt (sheet passed) 0)
-  head-is = c .head-of .ensures .0 ∙ ap headOf (c .before .line-from .ensures .0)
+  head-is = c .head-of .ensures .0 ∙ ap headOf (c .before .line-at .ensures .0)
 
   exact : room passed ≡ 44 * (t passed .read-design .result .count - 8)
   exact = c .before .before .if2 .left
@@ -76,8 +76,8 @@ returns-2 c =
     let d = c .before in
     (refused-room (sheet d) _ _ _ (t d .read-design .ensures) (zero d) (room d) (c .if2 .taken), refl)
 
-line-from-requires : tie.Need-line-from-requires
-line-from-requires c κs = search needs
+line-at-requires : tie.Need-line-at-requires
+line-at-requires c κs = search needs
 
 head-of-requires : tie.Need-head-of-requires
 head-of-requires c κs = search needs
@@ -135,7 +135,7 @@ write-page-spec =
     sub-if2
     mul-if2
     returns-2
-    line-from-requires
+    line-at-requires
     head-of-requires
     enum-known-z
     array-share-prefix-words

@@ -8,10 +8,10 @@ use Rattle.label_text.proofs.target_count.Statement.{statement}
 use Rattle.label_text.proofs.target_count.Tie as tie
 
 head-is : (c : tie.After-head-of) → headOf (lineAt (c .before .before .before .args .drive .now) 0) ≡ c .head-of .result
-head-is c = ap headOf (sym (c .before .line-from .ensures .0)) ∙ sym (c .head-of .ensures .0)
+head-is c = ap headOf (sym (c .before .line-at .ensures .0)) ∙ sym (c .head-of .ensures .0)
 
-line-from-requires : tie.Need-line-from-requires
-line-from-requires c κs = search needs
+line-at-requires : tie.Need-line-at-requires
+line-at-requires c κs = search needs
 
 head-of-requires : tie.Need-head-of-requires
 head-of-requires c κs = search needs
@@ -33,4 +33,4 @@ returns-2 c = sym (ap headTargets (head-is (c .before .before) ∙ c .enum-told 
 pub target-count-spec : {M : Type 1} → statement M
 target-count-spec =
     tie.close
-    (tie.spec line-from-requires head-of-requires enum-known-z enum-told returns returns-2)
+    (tie.spec line-at-requires head-of-requires enum-known-z enum-told returns returns-2)

@@ -1,13 +1,15 @@
 -- `lines::take_line` meets its contract: each way out is one law of Step.antt. Assumes nothing.
 use native.Mathlib.Omega.{arith}
 use mathlib.Core.Path.{_≡_, sym, ap, _∙_}
-use Prim.Native.Nat.{_-_, _<_}
+use mathlib.Core.List.{List}
+use Prim.Native.Nat.{ℕ, _+_, _-_, _*_, _<_}
 use lib.IntN.{ℤ}
 use lib.Ieee.{Float}
 use mir.Syntax.{w64}
 use mir.Val.{toZ, ofZ}
 use Rattle.double.specs.declared.Converted.the-variants.{Word, Refused}
 use borrow.Author.Needs.{needs}
+use Rattle.line.specs.Line.{lineAt}
 use Rattle.frame.specs.declared.Due.{Due}
 use Rattle.frame.specs.declared.Value.the-variants.{Double}
 use Rattle.frame.specs.Frame.{dueAt, lowBase, valueDouble, wordOf}
@@ -23,7 +25,7 @@ use Rattle.lines.proofs.take_line.Tie as tie
 -- the place is in the tables
 module _ (c : tie.After-due-at) where
   abbrev a : tie.Start
-  a = c .before .before .before
+  a = c .before .before
 
   small : a .args .i < 561
   small = omega (arith, total-high (a .args .z) (a .pre .0), a .pre .1)
@@ -31,20 +33,20 @@ module _ (c : tie.After-due-at) where
 -- the line's double was read
 module _ (c : tie.After-known-told) where
   abbrev st : tie.Start
-  st = c .before .before .before .before .before .before .before .before
+  st = c .before .before .before .before .before .before
 
   abbrev x : Float
   x = c .before .x .given .0 .0
 
-  value : lineValue (st .args .z) (st .args .s .now) (st .args .i) ≡ Double x
-  value = value-is (st .args .z) (st .args .s .now) (st .args .i) _ _ _ (c .before .before .before .value-of .ensures .0) (c .before .before .before .before .before .due-at .ensures) (c .before .before .before .before .line-from .ensures .0) ∙ c .before .x .given .1
+  value : (s : List ℕ) → st .args .l ≡ lineAt s (23 * (st .args .i + 1)) → lineValue (st .args .z) s (st .args .i) ≡ Double x
+  value s q = value-is (st .args .z) s (st .args .i) _ _ _ (c .before .before .before .value-of .ensures .0) (c .before .before .before .before .due-at .ensures) q ∙ c .before .x .given .1
 
   -- what was due
   abbrev here : Due
-  here = c .before .before .before .before .before .due-at .result
+  here = c .before .before .before .before .due-at .result
 
   due-is : here ≡ dueAt (st .args .z) (st .args .i)
-  due-is = c .before .before .before .before .before .due-at .ensures
+  due-is = c .before .before .before .before .due-at .ensures
 
 -- a high limit
 module _ (c : tie.Then1) where
@@ -71,8 +73,8 @@ module _ (c : tie.After-known-told4) where
   word-is : wordOf (st kt .args .z) (dueAt (st kt .args .z) (st kt .args .i) .kind) (x kt) ≡ Word v
   word-is = ap (λ (d : Due). wordOf (st kt .args .z) (d .kind) (x kt)) (sym (due-is kt)) ∙ sym (c .before .before .before .word-of .ensures .0) ∙ c .before .v .given .1
 
-  taken : (lineFault (st kt .args .z) (st kt .args .s .now) (st kt .args .i) ≡ 0) × (lineWord (st kt .args .z) (st kt .args .s .now) (st kt .args .i) ≡ v)
-  taken = fault-word (st kt .args .z) (st kt .args .s .now) (st kt .args .i) (x kt) v (value kt) word-is
+  taken : (s : List ℕ) → st kt .args .l ≡ lineAt s (23 * (st kt .args .i + 1)) → (lineFault (st kt .args .z) s (st kt .args .i) ≡ 0) × (lineWord (st kt .args .z) s (st kt .args .i) ≡ v)
+  taken s q = fault-word (st kt .args .z) s (st kt .args .i) (x kt) v (value kt s q) word-is
 
 -- a low limit
 module _ (c : tie.Then2) where
@@ -93,15 +95,6 @@ mul-n c = search needs
 due-at-requires : tie.Need-due-at-requires
 due-at-requires c κs = search needs
 
-add-line-from : tie.Need-add-line-from
-add-line-from c = omega (arith, small c)
-
-mul-line-from : tie.Need-mul-line-from
-mul-line-from c = omega (arith, small c)
-
-line-from-requires : tie.Need-line-from-requires
-line-from-requires c κs = search needs
-
 value-of-requires : tie.Need-value-of-requires
 value-of-requires c κs = search needs
 
@@ -112,11 +105,11 @@ enum-known-fault : tie.Need-enum-known-fault
 enum-known-fault c = search needs
 
 returns : tie.Need-returns
-returns c =
+returns c s q r =
     let k = c .before .before .before in
-    let u = k .before .before .before .before .before in
-    let g = value-is (u .args .z) (u .args .s .now) (u .args .i) _ _ _ (k .value-of .ensures .0) (k .before .before .due-at .ensures) (k .before .line-from .ensures .0) ∙ c .before .fault .given .1 in
-    (value-fault (u .args .z) (u .args .s .now) (u .args .i) _ g, λ q. absurd (fault-none (u .args .z) (u .args .s .now) (u .args .i) _ g q))
+    let u = k .before .before .before in
+    let g = value-is (u .args .z) s (u .args .i) _ _ _ (k .value-of .ensures .0) (k .before .due-at .ensures) q ∙ c .before .fault .given .1 in
+    (value-fault (u .args .z) s (u .args .i) _ g, λ n. absurd (fault-none (u .args .z) s (u .args .i) _ g n))
 
 command-of-requires : tie.Need-command-of-requires
 command-of-requires c κs = (su c .pre .0, of-high c .0, of-high c .1)
@@ -145,47 +138,47 @@ enum-known-low : tie.Need-enum-known-low
 enum-known-low c = search needs
 
 add-low : tie.Need-add-low
-add-low c = omega (arith, small (c .before .before .before .before .before .before .before .before .before .before .before .before .before))
+add-low c = omega (arith, small (c .before .before .before .before .before .before .before .before .before .before .before .before))
 
 sub-low : tie.Need-sub-low
 sub-low c = omega (arith, high (c .before .before .before .before .before .before))
 
 mul-low-2 : tie.Need-mul-low-2
-mul-low-2 c = omega (arith, small (c .before .before .before .before .before .before .before .before .before .before .before .before .before))
+mul-low-2 c = omega (arith, small (c .before .before .before .before .before .before .before .before .before .before .before .before))
 
 element-set-from-low : tie.Need-element-set-from-low
-element-set-from-low c = omega (arith, small (c .before .before .before .before .before .before .before .before .before .before .before .before .before))
+element-set-from-low c = omega (arith, small (c .before .before .before .before .before .before .before .before .before .before .before .before))
 
 add-high : tie.Need-add-high
-add-high c = omega (arith, small (c .before .before .before .before .before .before .before .before .before .before .before .before .before))
+add-high c = omega (arith, small (c .before .before .before .before .before .before .before .before .before .before .before .before))
 
 mul-high : tie.Need-mul-high
-mul-high c = omega (arith, small (c .before .before .before .before .before .before .before .before .before .before .before .before .before))
+mul-high c = omega (arith, small (c .before .before .before .before .before .before .before .before .before .before .before .before))
 
 element-set-from-high : tie.Need-element-set-from-high
-element-set-from-high c = omega (arith, small (c .before .before .before .before .before .before .before .before .before .before .before .before .before))
+element-set-from-high c = omega (arith, small (c .before .before .before .before .before .before .before .before .before .before .before .before))
 
 returns-2 : tie.Need-returns-2
-returns-2 c =
+returns-2 c s q r =
     let k = c .before .before .before .before .before in
     let t = k .before in
     let u = su t in
     let low = c .before .low2 in
     let ea : toZ w64 (ofZ w64 (low .given .0 .0)) ≡ low .given .0 .0 = search needs in
     let eb : toZ w64 (ofZ w64 (low .given .0 .1 .0)) ≡ low .given .0 .1 .0 = search needs in
-    let p = pair-words (u .args .z) (u .args .s .now) (u .args .i) (u .args .words .now) (u .args .lows .now) (u .pre .0) (u .pre .2) (k5 t) (x (t .before .before)) (value (t .before .before)) (k .command-of .result) (command-is k) (low .given .0 .0) (low .given .0 .1 .0) (sym (low .given .1) ∙ c .before .before .before .inward .ensures .0) in
-    (sym (p .2), λ q. step-pair (u .args .z) (u .args .s .now) (u .args .i) (u .args .words .now) (u .args .lows .now) (u .pre .0) (u .pre .1) (u .pre .2) (p .2) _ _ (p .0 ∙ sym ea) (p .1 ∙ sym eb) (k5 t))
+    let p = pair-words (u .args .z) s (u .args .i) (u .args .words .now) (u .args .lows .now) (u .pre .0) r (k5 t) (x (t .before .before)) (value (t .before .before) s q) (k .command-of .result) (command-is k) (low .given .0 .0) (low .given .0 .1 .0) (sym (low .given .1) ∙ c .before .before .before .inward .ensures .0) in
+    (sym (p .2), λ n. step-pair (u .args .z) s (u .args .i) (u .args .words .now) (u .args .lows .now) (u .pre .0) (u .pre .1) r (p .2) _ _ (p .0 ∙ sym ea) (p .1 ∙ sym eb) (k5 t))
 
 enum-told : tie.Need-enum-told
 enum-told c = search needs
 
 returns-3 : tie.Need-returns-3
-returns-3 c =
+returns-3 c s q r =
     let k = c .before .before .before .before in
     let t = k .before in
     let u = su t in
-    let f = pair-fault (u .args .z) (u .args .s .now) (u .args .i) (u .args .words .now) (u .args .lows .now) (u .pre .0) (u .pre .2) (k5 t) (x (t .before .before)) (value (t .before .before)) (k .command-of .result) (command-is k) (sym (c .enum-told .given .1) ∙ c .before .before .inward .ensures .0) in
-    (sym f, λ q. let n : ⊥ = omega arith in absurd n)
+    let f = pair-fault (u .args .z) s (u .args .i) (u .args .words .now) (u .args .lows .now) (u .pre .0) r (k5 t) (x (t .before .before)) (value (t .before .before) s q) (k .command-of .result) (command-is k) (sym (c .enum-told .given .1) ∙ c .before .before .inward .ensures .0) in
+    (sym f, λ m. let n : ⊥ = omega arith in absurd n)
 
 word-of-requires : tie.Need-word-of-requires
 word-of-requires c κs = search needs
@@ -214,40 +207,40 @@ element-write-lows : tie.Need-element-write-lows
 element-write-lows c = low-small c
 
 add-v : tie.Need-add-v
-add-v c = omega (arith, small (c .before .before .before .before .before .before .before .before .before .before .before .before .before))
+add-v c = omega (arith, small (c .before .before .before .before .before .before .before .before .before .before .before .before))
 
 mul-v : tie.Need-mul-v
-mul-v c = omega (arith, small (c .before .before .before .before .before .before .before .before .before .before .before .before .before))
+mul-v c = omega (arith, small (c .before .before .before .before .before .before .before .before .before .before .before .before))
 
 element-set-from-v : tie.Need-element-set-from-v
-element-set-from-v c = omega (arith, small (c .before .before .before .before .before .before .before .before .before .before .before .before .before))
+element-set-from-v c = omega (arith, small (c .before .before .before .before .before .before .before .before .before .before .before .before))
 
 enum-told-2 : tie.Need-enum-told-2
 enum-told-2 c = search needs
 
 returns-4 : tie.Need-returns-4
-returns-4 c =
+returns-4 c s q r =
     let d = c .before .before .before in
     let u = sl (c .before) in
-    (sym (taken d .0), λ q. step-low (u .args .z) (u .args .s .now) (u .args .i) (u .args .words .now) (u .args .lows .now) (u .pre .0) (u .pre .1) (u .pre .2) (taken d .0) (x (kt d)) _ (ap valueDouble (value (kt d))) (k4 (c .before)) (low-command c))
+    (sym (taken d s q .0), λ n. step-low (u .args .z) s (u .args .i) (u .args .words .now) (u .args .lows .now) (u .pre .0) (u .pre .1) r (taken d s q .0) (x (kt d)) _ (ap valueDouble (value (kt d) s q)) (k4 (c .before)) (low-command c))
 
 returns-5 : tie.Need-returns-5
-returns-5 c =
+returns-5 c s q r =
     let d = c .before .before in
     let u = st (kt d) in
     let e : toZ w64 (ofZ w64 (v d)) ≡ v d = search needs in (
-      sym (taken d .0),
-      λ q. step-word (u .args .z) (u .args .s .now) (u .args .i) (u .args .words .now) (u .args .lows .now) (u .pre .0) (u .pre .1) (u .pre .2) (taken d .0) _ (taken d .1 ∙ sym e)
+      sym (taken d s q .0),
+      λ n. step-word (u .args .z) s (u .args .i) (u .args .words .now) (u .args .lows .now) (u .pre .0) (u .pre .1) r (taken d s q .0) _ (taken d s q .1 ∙ sym e)
           (λ (h : dueAt (u .args .z) (u .args .i) .kind ≡ 4). c .if2 .left (ap (λ (m : Due). m .kind) (due-is (kt d)) ∙ h))
           (λ (h : dueAt (u .args .z) (u .args .i) .kind ≡ 5). d .before .before .before .before .if1 .left (ap (λ (m : Due). m .kind) (due-is (kt d)) ∙ h)),
     )
 
 returns-6 : tie.Need-returns-6
-returns-6 c =
+returns-6 c s q r =
     let k = c .before .before .before .before .before in
     let u = st k in
     let h : wordOf (u .args .z) (dueAt (u .args .z) (u .args .i) .kind) (x k) ≡ Refused = ap (λ (d : Due). wordOf (u .args .z) (d .kind) (x k)) (sym (due-is k)) ∙ sym (c .before .before .word-of .ensures .0) ∙ c .enum-told2 .given .1 in
-    (sym (fault-refused (u .args .z) (u .args .s .now) (u .args .i) (x k) (value k) h), λ q. let n : ⊥ = omega arith in absurd n)
+    (sym (fault-refused (u .args .z) s (u .args .i) (x k) (value k s q) h), λ m. let n : ⊥ = omega arith in absurd n)
 
 pub take-line-spec : {M : Type 1} → statement M
 take-line-spec =
@@ -255,9 +248,6 @@ take-line-spec =
     (tie.spec
     mul-n
     due-at-requires
-    add-line-from
-    mul-line-from
-    line-from-requires
     value-of-requires
     enum-known-x
     enum-known-fault

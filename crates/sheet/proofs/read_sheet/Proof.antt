@@ -1,64 +1,54 @@
 -- `sheet::read_sheet` meets its contract. Assumes nothing.
 use native.Mathlib.Omega.{arith}
-use Rattle.line.specs.Line.{lineAt}
-use mathlib.Core.Path.{_≡_, sym, ap, _∙_}
+use mathlib.Core.Path.{_≡_, refl}
 use mathlib.Core.List.{List}
-use Prim.Native.Nat.{ℕ}
+use Prim.Native.Nat.{ℕ, _≤_}
 use borrow.Author.Needs.{needs}
-use Rattle.frame.specs.Frame.{headOf}
-use Rattle.frame.proofs.Sized.{head-sound}
-use Rattle.sheet.proofs.Answer.{answered-sized, answered-unsized}
+use Rattle.sheet.specs.declared.Progress.{Progress}
+use Rattle.sheet.specs.Reading.{Read}
+use Rattle.sheet.proofs.Through.{answer-all, answer-fault, answer-long, high, unread}
 use Rattle.sheet.proofs.read_sheet.Statement.{statement}
 use Rattle.sheet.proofs.read_sheet.Tie as tie
 
--- line 01 was read
-module _ (c : tie.After-head-of) where
-  abbrev a : tie.Start
-  a = c .before .before .before
-
+-- the lines due were read
+module _ (c : tie.After-read-through) where
   abbrev text : List ℕ
-  text = a .args .s .now
+  text = c .before .before .before .before .before .args .s .now
 
-  head-is : headOf (lineAt text 0) ≡ c .head-of .result
-  head-is = ap headOf (sym (c .before .line-from .ensures .0)) ∙ sym (c .head-of .ensures .0)
+  abbrev p : Progress
+  p = c .read-through .result
 
-line-from-requires : tie.Need-line-from-requires
-line-from-requires c κs = search needs
+  few : p .number ≡ 0 → p .taken ≤ 562
+  few e = high text p (c .read-through .last .0) (c .read-through .last .1 .0) (c .read-through .ensures .1) (c .read-through .ensures .0) e
 
-head-of-requires : tie.Need-head-of-requires
-head-of-requires c κs = search needs
+start-requires : tie.Need-start-requires
+start-requires c κs = search needs
 
-enum-known-z : tie.Need-enum-known-z
-enum-known-z c = search needs
-
-read-lines-requires : tie.Need-read-lines-requires
-read-lines-requires c κs =
-    let h = c .before .before .before .before in
-    (head-sound (lineAt (text h) 0) _ (head-is h ∙ c .before .before .z .given .1), a h .pre)
-
-enum-known-n : tie.Need-enum-known-n
-enum-known-n c = search needs
+read-through-requires : tie.Need-read-through-requires
+read-through-requires c κs =
+    let a = c .before .before .before .before in
+    (unread (a .args .s .now) (c .start .result) (a .args .words .now) _ (c .start .ensures) (a .pre) refl, c .start .ensures .0)
 
 returns : tie.Need-returns
 returns c =
-    let h = c .before .before .before .before .before in
-    let z = c .before .before .before .z .given in
-    let r = c .read-lines in
-    answered-sized (text h) (r .result .number) (r .result .count) (r .last .0) (z .0 .0) (head-is h ∙ z .1) (r .ensures)
+    let k = c .before .before in
+    answer-fault (text k) (p k) (k .read-through .last .0) _ (k .read-through .ensures .1) (k .read-through .ensures .0) (c .if1 .taken)
+
+mul-if2 : tie.Need-mul-if2
+mul-if2 c = omega (arith, few (c .before .before .before) (c .before .if1 .left))
 
 returns-2 : tie.Need-returns-2
 returns-2 c =
-    let h = c .before .before .before in
-    answered-unsized (text h) _ 0 _ (head-is h ∙ c .before .n .given .1) (omega arith)
+    let k = c .before .before .before .before in
+    answer-long (text k) (p k) (k .read-through .last .0) _ (k .read-through .ensures .1) (k .read-through .ensures .0) (c .before .before .if1 .left) (c .if2 .taken)
+
+add-t9 : tie.Need-add-t9
+add-t9 c = omega (arith, few (c .before .before .before .before .before) (c .before .before .before .if1 .left))
+
+returns-3 : tie.Need-returns-3
+returns-3 c =
+    let k = c .before .before .before .before .before in
+    answer-all (text k) (p k) (k .read-through .last .0) _ (k .read-through .ensures .1) (k .read-through .ensures .0) (c .before .before .before .if1 .left) (c .before .if2 .left)
 
 pub read-sheet-spec : {M : Type 1} → statement M
-read-sheet-spec =
-    tie.close
-    (tie.spec
-    line-from-requires
-    head-of-requires
-    enum-known-z
-    read-lines-requires
-    enum-known-n
-    returns
-    returns-2)
+read-sheet-spec = tie.close (tie.spec start-requires read-through-requires returns mul-if2 returns-2 add-t9 returns-3)
