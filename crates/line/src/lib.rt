@@ -47,7 +47,7 @@ pub struct Reader<'a> {
     pub at: usize,
 }
 
-// The line that a reader stood at, and the reader behind it.
+// A line, and the reader behind it.
 pub struct Step<'a> {
     pub line: Line,
     pub rest: Reader<'a>,

@@ -1,5 +1,5 @@
 -- A sheet read line by line: one line more, and the answer at its end. Assumes nothing.
-use mathlib.Core.Path.{_≡_, refl, sym, _∙_, subst}
+use mathlib.Core.Path.{_≡_, refl, subst}
 use mathlib.Core.List.{List, _++_}
 use Prim.Native.Nat.{ℕ, zero, suc, _+_, _-_, _*_, _≤_, _<_}
 use lib.IntN.{ℤ}
@@ -87,15 +87,15 @@ stopped-at s p ws ls t l q e = record {
 
 -- ---- line 01
 module _ (s : List ℕ) (ws : List ℤ) (ls : List Float) where
-  pub first-sized : (z : Sizes) (vs : List ℤ) (n : ℕ) → headOf (lineAt s 0) ≡ Sized z → length vs ≡ 569 → ws ≡ sizeWords z ++ drop 8 vs → n ≡ total z → length ls ≡ 16 → Read s (record { sizes = z; taken = 1; left = n; number = 0 }) ws ls
-  first-sized z vs n h size e many room = record {
+  pub sizes-taken : (z : Sizes) (vs : List ℤ) (n : ℕ) → headOf (lineAt s 0) ≡ Sized z → length vs ≡ 569 → ws ≡ sizeWords z ++ drop 8 vs → n ≡ total z → length ls ≡ 16 → Read s (record { sizes = z; taken = 1; left = n; number = 0 }) ws ls
+  sizes-taken z vs n h size e many room = record {
     none = λ (e : _≡_ {A = ℕ} 1 0). let w : ⊥ = omega arith in absurd w;
     lines = λ _ _. (h, omega (arith, many), read-start z s vs ws ls size e room);
     fault = λ q. absurd (q refl);
   }
 
-  pub first-fault : (p : Progress) → 0 < p .taken → p .left ≡ 0 → headOf (lineAt s 0) ≡ Unsized (p .number) → Read s p ws ls
-  first-fault p t l h = stopped-at s p ws ls t l (head-none (lineAt s 0) (p .number) h) (answered-unsized s (p .number) 0 ws h (omega arith) .number-is)
+  pub sizes-refused : (p : Progress) → 0 < p .taken → p .left ≡ 0 → headOf (lineAt s 0) ≡ Unsized (p .number) → Read s p ws ls
+  sizes-refused p t l h = stopped-at s p ws ls t l (head-none (lineAt s 0) (p .number) h) (answered-unsized s (p .number) 0 ws h (omega arith) .number-is)
 
 -- ---- no line is due
 module _ (s : List ℕ) (p : Progress) (ws : List ℤ) (ls : List Float) (r : Read s p ws ls) (done : p .left ≡ 0) where

@@ -13,13 +13,13 @@ use Rattle.lines.specs.Lines.{ReadTo}
 use Rattle.sheet.specs.Sheet.{sheetNumber}
 use Rattle.sheet.specs.declared.Progress.{Progress}
 
--- so far the sheet s is read: nothing of it; or line 01 and some of the lines due, without a fault; or up to its first fault
+-- "The reader goes through the text line by line and the first fault decides": p says how far s is read, and the arrays are as far
 pub record Read (s : List ℕ) (p : Progress) (words : List ℤ) (lows : List Float) : Type 0 where
   pub none : p .taken ≡ 0 → (p .left ≡ 1) × (p .number ≡ 0) × (length words ≡ 569) × (length lows ≡ 16)
   pub lines : 0 < p .taken → p .number ≡ 0 → (headOf (lineAt s 0) ≡ Sized (p .sizes)) × (p .taken + p .left ≡ total (p .sizes) + 1) × ReadTo (p .sizes) s (p .taken - 1) words lows
   pub fault : (p .number ≡ 0 → ⊥) → (p .left ≡ 0) × (p .number ≡ sheetNumber s)
 
--- a line can be taken, whatever the sheet
+-- a line is due and can be taken, whatever the sheet
 pub record Ready (p : Progress) (words : List ℤ) (lows : List Float) : Type 0 where
   pub size : length words ≡ 569
   pub room : length lows ≡ 16

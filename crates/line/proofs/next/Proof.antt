@@ -1,6 +1,7 @@
 -- `line::next` meets its contract: a walk of its MIR, by hand. The reader is taken apart, `line_at` is called on the slice and the number, and a reader 23 bytes further is made. All that the proof knows of `line_at` is that it meets its contract.
 -- A reader is Copy: what it owns is had three times, for the exit, for the callee, beside the lifetime's token, which comes back, and for the reader behind the line.
 -- Assumes nothing.
+use native.Mathlib.Omega.{arith}
 use mathlib.Core.Path.{_≡_, refl, ap}
 use Prim.Native.Nat.{_+_, _<_, _^_}
 use mathlib.Core.List.{List, [], _∷_}
@@ -184,8 +185,8 @@ module _ {M : Type 1} (𝓤 : URA M) (H : Heap 𝓤) (A : Atoms 𝓤) (W : Given
         move ! (0 ∷ 2 ∷ []) $ use2 W (‵ (Given-back l) ⊛ ‵ Own) (made-of ok l) $ split ! $ peeks ! (U.the-row (namedLft 1 0 tt (κ, tt))) (Is (U.the-row (namedLft 1 0 tt (κ, tt)))) (shows 𝓤 H A (U.the-row (namedLft 1 0 tt (κ, tt)))) (made l) (step-val l ∷ []) (λ was.
         assigns ! (of-opd ! (load ! (from ! (fld ! refl (stop !))) (look-in ! 17 (sub ! 0 refl (whole !))))) (from ! (stop !)) (init ! 9 refl (tt, wt .1 .0)) $
         assigns ! (of-opd ! (load ! (from ! (fld ! refl (stop !))) (look-in ! 17 (sub ! 1 refl (whole !))))) (from ! (stop !)) (init ! 7 refl (tt, wt .1 .1 .0)) $
-        assigns ! (bin ! (load ! (from ! (stop !)) (look ! 7 refl)) (lit ! tt) (record { fits = ok })) (from ! (stop !)) (init ! 5 refl (tt, record { fits = ok })) $
-        assigns ! (agg ! (and-then ! (load ! (from ! (stop !)) (look ! 9 refl)) (and-then ! (load ! (from ! (stop !)) (look ! 5 refl)) (no-more !)))) (from ! (stop !)) (init ! 3 refl (tt, (wt .1 .0, (record { fits = ok }, tt)))) $
+        assigns ! (bin ! (load ! (from ! (stop !)) (look ! 7 refl)) (lit ! tt) (record { fits = omega (arith, ok) })) (from ! (stop !)) (init ! 5 refl (tt, record { fits = omega (arith, ok) })) $
+        assigns ! (agg ! (and-then ! (load ! (from ! (stop !)) (look ! 9 refl)) (and-then ! (load ! (from ! (stop !)) (look ! 5 refl)) (no-more !)))) (from ! (stop !)) (init ! 3 refl (tt, (wt .1 .0, (record { fits = omega (arith, ok) }, tt)))) $
         assigns ! (agg ! (and-then ! (load ! (from ! (stop !)) (look ! 15 refl)) (and-then ! (load ! (from ! (stop !)) (look ! 3 refl)) (no-more !)))) (from ! (stop !)) (init ! 19 refl (LL.lawful D₁ L₁ 𝓤 H A W .typed (made l) _ was .0)) $
         returns ! (look ! 19 refl) $ forget ! 3 refl $ forget ! 5 refl $ forget ! 7 refl $ forget ! 9 refl $ forget ! 11 refl $ forget ! 13 refl $ forget ! 15 refl $ forget ! 17 refl $ forget ! 19 refl $
         move ! (19 ∷ 20 ∷ []) $ free1 ! $ move ! (17 ∷ 18 ∷ []) $ free1 ! $ move ! (15 ∷ 16 ∷ []) $ free1 ! $ move ! (13 ∷ 14 ∷ []) $ free1 ! $ move ! (11 ∷ 12 ∷ []) $ free1 ! $ move ! (9 ∷ 10 ∷ []) $ free1 ! $ move ! (7 ∷ 8 ∷ []) $ free1 ! $ move ! (5 ∷ 6 ∷ []) $ free1 ! $ move ! (3 ∷ 4 ∷ []) $ free1 ! $ free0 ! $ by ! (exits l e)))))))))))))))

@@ -5,7 +5,6 @@ use mathlib.Core.List.{List}
 use Prim.Native.Nat.{ℕ, _≤_}
 use borrow.Author.Needs.{needs}
 use Rattle.sheet.specs.declared.Progress.{Progress}
-use Rattle.sheet.specs.Reading.{Read}
 use Rattle.sheet.proofs.Through.{answer-all, answer-fault, answer-long, high, unread}
 use Rattle.sheet.proofs.read_sheet.Statement.{statement}
 use Rattle.sheet.proofs.read_sheet.Tie as tie

@@ -10,7 +10,7 @@ use Rattle.frame.specs.Frame.{headOf}
 use Rattle.frame.proofs.Laws.{total-is}
 use Rattle.frame.proofs.Sized.{head-sound}
 use Rattle.line.specs.Line.{lineAt}
-use Rattle.sheet.proofs.Through.{first-fault, first-sized}
+use Rattle.sheet.proofs.Through.{sizes-refused, sizes-taken}
 use Rattle.sheet.proofs.take_first.Statement.{statement}
 use Rattle.sheet.proofs.take_first.Tie as tie
 
@@ -52,7 +52,7 @@ returns c =
     let h = c .before .before .before .before .before .before in
     let z = c .before .before .before .before .z .given in (
       omega arith,
-      λ s ls q room. first-sized s _ ls (z .0 .0) (a h .args .words .now) _ (head-of-text h s _ q (z .1)) (a h .pre .1) (c .before .put-sizes .ensures) (c .body-count .ensures ∙ sym (total-is (z .0 .0))) room,
+      λ s ls q room. sizes-taken s _ ls (z .0 .0) (a h .args .words .now) _ (head-of-text h s _ q (z .1)) (a h .pre .1) (c .before .put-sizes .ensures) (c .body-count .ensures ∙ sym (total-is (z .0 .0))) room,
     )
 
 returns-2 : tie.Need-returns-2
@@ -60,7 +60,7 @@ returns-2 c =
     let h = c .before .before .before .before in
     let e = c .stopped .ensures in (
       omega (arith, e .0, a h .pre .0),
-      λ s ls q room. first-fault s _ ls (c .stopped .result) (omega (arith, e .0)) (e .1) (head-of-text h s _ q (c .before .before .n .given .1) ∙ ap Unsized (sym (e .2))),
+      λ s ls q room. sizes-refused s _ ls (c .stopped .result) (omega (arith, e .0)) (e .1) (head-of-text h s _ q (c .before .before .n .given .1) ∙ ap Unsized (sym (e .2))),
     )
 
 pub take-first-spec : {M : Type 1} → statement M
