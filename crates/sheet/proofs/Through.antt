@@ -15,7 +15,7 @@ use Rattle.frame.proofs.Laws.{total-high}
 use Rattle.frame.proofs.Sized.{head-none, head-sound}
 use Rattle.lines.specs.Lines.{lineFault, sizeWords, ReadTo}
 use Rattle.sheet.specs.declared.Progress.{Progress}
-use Rattle.sheet.specs.Reading.{Answered, Read, Ready}
+use Rattle.sheet.specs.Reading.{Answered, Read}
 use Rattle.sheet.specs.Sheet.{sheetNumber, sheetWords}
 use Rattle.sheet.proofs.Whole.{read-start, taken-all, taken-fault, taken-long}
 use Rattle.sheet.proofs.Answer.{answered-sized, answered-unsized}
@@ -29,7 +29,7 @@ unread s p ws ls e size room = record {
 }
 
 -- ---- a line is due
-module _ (s : List ℕ) (p : Progress) (ws : List ℤ) (ls : List Float) (r : Read s p ws ls) (more : 0 < p .left) where
+module _ {s : List ℕ} {p : Progress} {ws : List ℤ} {ls : List Float} (r : Read s p ws ls) (more : 0 < p .left) where
   no-fault : p .number ≡ 0
   no-fault = by (p .number) refl
     where
@@ -37,7 +37,7 @@ module _ (s : List ℕ) (p : Progress) (ws : List ℤ) (ls : List Float) (r : Re
       by zero e = e
       by (suc n) e = let w : ⊥ = omega (arith, r .fault (λ (q : p .number ≡ 0). omega arith) .0) in absurd w
 
-  sized : 0 < p .taken → Sound (p .sizes) × (p .taken + p .left ≡ total (p .sizes) + 1)
+  pub sized : 0 < p .taken → Sound (p .sizes) × (p .taken + p .left ≡ total (p .sizes) + 1)
   sized t = let l = r .lines t no-fault in (head-sound (lineAt s 0) (p .sizes) (l .0), l .1)
 
   pub few : p .taken < 562
@@ -47,15 +47,12 @@ module _ (s : List ℕ) (p : Progress) (ws : List ℤ) (ls : List Float) (r : Re
       by zero e = omega arith
       by (suc n) e = let z = sized (omega arith) in omega (arith, z .1, total-high (p .sizes) (z .0))
 
-  pub ready : Ready p ws ls
-  ready = record { size = room .0; room = room .1; sized = sized; more = more }
+  pub room : (length ws ≡ 569) × (length ls ≡ 16)
+  room = by (p .taken) refl
     where
-      room-by : (n : ℕ) → p .taken ≡ n → (length ws ≡ 569) × (length ls ≡ 16)
-      room-by zero e = let n = r .none e in (n .2, n .3)
-      room-by (suc n) e = let l = r .lines (omega arith) no-fault in (l .2 .size, l .2 .room)
-
-      room : (length ws ≡ 569) × (length ls ≡ 16)
-      room = room-by (p .taken) refl
+      by : (n : ℕ) → p .taken ≡ n → (length ws ≡ 569) × (length ls ≡ 16)
+      by zero e = let n = r .none e in (n .2, n .3)
+      by (suc n) e = let l = r .lines (omega arith) no-fault in (l .2 .size, l .2 .room)
 
   -- the lines before it are read; it had a fault, or its word was taken
   module _ (t : 0 < p .taken) where
@@ -98,7 +95,7 @@ module _ (s : List ℕ) (ws : List ℤ) (ls : List Float) where
   sizes-refused p t l h = stopped-at s p ws ls t l (head-none (lineAt s 0) (p .number) h) (answered-unsized s (p .number) 0 ws h (omega arith) .number-is)
 
 -- ---- no line is due
-module _ (s : List ℕ) (p : Progress) (ws : List ℤ) (ls : List Float) (r : Read s p ws ls) (done : p .left ≡ 0) where
+module _ {s : List ℕ} {p : Progress} {ws : List ℤ} {ls : List Float} (r : Read s p ws ls) (done : p .left ≡ 0) where
   abbrev Answer : ℕ → ℕ → Type 0
   Answer n c = Answered (sheetNumber s) (sheetWords s) n c ws
 

@@ -5,7 +5,6 @@ use mathlib.Core.List.{List}
 use lib.ListN.{length, take}
 use lib.IntN.{ℤ}
 use lib.Ieee.{Float}
-use Rattle.image.specs.Sizes.{Sound}
 use Rattle.line.specs.Line.{lineAt}
 use Rattle.frame.specs.declared.Head.the-variants.{Sized}
 use Rattle.frame.specs.Frame.{headOf, total}
@@ -18,13 +17,6 @@ pub record Read (s : List ℕ) (p : Progress) (words : List ℤ) (lows : List Fl
   pub none : p .taken ≡ 0 → (p .left ≡ 1) × (p .number ≡ 0) × (length words ≡ 569) × (length lows ≡ 16)
   pub lines : 0 < p .taken → p .number ≡ 0 → (headOf (lineAt s 0) ≡ Sized (p .sizes)) × (p .taken + p .left ≡ total (p .sizes) + 1) × ReadTo (p .sizes) s (p .taken - 1) words lows
   pub fault : (p .number ≡ 0 → ⊥) → (p .left ≡ 0) × (p .number ≡ sheetNumber s)
-
--- a line is due and can be taken, whatever the sheet
-pub record Ready (p : Progress) (words : List ℤ) (lows : List Float) : Type 0 where
-  pub size : length words ≡ 569
-  pub room : length lows ≡ 16
-  pub sized : 0 < p .taken → Sound (p .sizes) × (p .taken + p .left ≡ total (p .sizes) + 1)
-  pub more : 0 < p .left
 
 -- a number, and where it is 0, the words in front of an array
 pub record Answered (number-due : ℕ) (words-due : List ℤ) (number count : ℕ) (words : List ℤ) : Type 0 where

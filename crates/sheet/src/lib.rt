@@ -8,7 +8,7 @@ ghost use Rattle.image.specs.Sizes.{Sound};
 ghost use Rattle.line.specs.Line.{lineAt};
 ghost use Rattle.lines.specs.Lines.{sizeWords};
 ghost use Rattle.sheet.specs.Sheet.{sheetNumber, sheetWords};
-ghost use Rattle.sheet.specs.Reading.{Answered, Read, Ready};
+ghost use Rattle.sheet.specs.Reading.{Answered, Read};
 use frame::Head;
 use image::Sizes;
 use line::Line;
@@ -105,7 +105,7 @@ fn take_first(words: &mut [i64; 569], p: Progress, l: Line) -> Progress
 
 // Takes the next line, line 01 or one after it. What is promised holds of every text that is read this far and has this line next.
 fn take_next(words: &mut [i64; 569], lows: &mut [f64; 16], p: Progress, l: Line) -> Progress
-    requires { ⌜ Ready p (now words) (now lows) ⌝ }
+    requires { ⌜ (0 < p .left) × ((s : List ℕ) × Read s p (now words) (now lows)) ⌝ }
     ensures { λ r. ⌜ (r .taken ≡ p .taken + 1) × ((s : List ℕ) → l ≡ lineAt s (23 * p .taken) → Read s p (now (words .entry)) (now (lows .entry)) → Read s r (now (words .exit)) (now (lows .exit))) ⌝ }
 {
     if p.taken == 0 {

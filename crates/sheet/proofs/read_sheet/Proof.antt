@@ -1,8 +1,7 @@
 -- `sheet::read_sheet` meets its contract. Assumes nothing.
 use native.Mathlib.Omega.{arith}
 use mathlib.Core.Path.{_≡_, refl}
-use mathlib.Core.List.{List}
-use Prim.Native.Nat.{ℕ, _≤_}
+use Prim.Native.Nat.{_≤_}
 use borrow.Author.Needs.{needs}
 use Rattle.sheet.specs.declared.Progress.{Progress}
 use Rattle.sheet.proofs.Through.{answer-all, answer-fault, answer-long, high, unread}
@@ -11,14 +10,11 @@ use Rattle.sheet.proofs.read_sheet.Tie as tie
 
 -- the lines due were read
 module _ (c : tie.After-read-through) where
-  abbrev text : List ℕ
-  text = c .before .before .before .before .before .args .s .now
-
   abbrev p : Progress
   p = c .read-through .result
 
   few : p .number ≡ 0 → p .taken ≤ 562
-  few e = high text p (c .read-through .last .0) (c .read-through .last .1 .0) (c .read-through .ensures .1) (c .read-through .ensures .0) e
+  few e = high (c .read-through .ensures .1) (c .read-through .ensures .0) e
 
 start-requires : tie.Need-start-requires
 start-requires c κs = search needs
@@ -31,7 +27,7 @@ read-through-requires c κs =
 returns : tie.Need-returns
 returns c =
     let k = c .before .before in
-    answer-fault (text k) (p k) (k .read-through .last .0) _ (k .read-through .ensures .1) (k .read-through .ensures .0) (c .if1 .taken)
+    answer-fault (k .read-through .ensures .1) (k .read-through .ensures .0) (c .if1 .taken)
 
 mul-if2 : tie.Need-mul-if2
 mul-if2 c = omega (arith, few (c .before .before .before) (c .before .if1 .left))
@@ -39,7 +35,7 @@ mul-if2 c = omega (arith, few (c .before .before .before) (c .before .if1 .left)
 returns-2 : tie.Need-returns-2
 returns-2 c =
     let k = c .before .before .before .before in
-    answer-long (text k) (p k) (k .read-through .last .0) _ (k .read-through .ensures .1) (k .read-through .ensures .0) (c .before .before .if1 .left) (c .if2 .taken)
+    answer-long (k .read-through .ensures .1) (k .read-through .ensures .0) (c .before .before .if1 .left) (c .if2 .taken)
 
 add-t9 : tie.Need-add-t9
 add-t9 c = omega (arith, few (c .before .before .before .before .before) (c .before .before .before .if1 .left))
@@ -47,7 +43,7 @@ add-t9 c = omega (arith, few (c .before .before .before .before .before) (c .bef
 returns-3 : tie.Need-returns-3
 returns-3 c =
     let k = c .before .before .before .before .before in
-    answer-all (text k) (p k) (k .read-through .last .0) _ (k .read-through .ensures .1) (k .read-through .ensures .0) (c .before .before .before .if1 .left) (c .before .if2 .left)
+    answer-all (k .read-through .ensures .1) (k .read-through .ensures .0) (c .before .before .before .if1 .left) (c .before .if2 .left)
 
 pub read-sheet-spec : {M : Type 1} → statement M
 read-sheet-spec = tie.close (tie.spec start-requires read-through-requires returns mul-if2 returns-2 add-t9 returns-3)

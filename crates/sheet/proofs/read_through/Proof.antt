@@ -69,7 +69,7 @@ use Rattle.line.proofs.next.Symbol.{name as #line·next}
 use Rattle.line.proofs.next.Met as next-thm
 use Rattle.sheet.specs.declared.Progress.{Progress}
 use Rattle.sheet.specs.Reading.{Read}
-use Rattle.sheet.proofs.Through.{few, ready}
+use Rattle.sheet.proofs.Through.{few}
 use Rattle.sheet.proofs.Progress as P
 use Rattle.sheet.proofs.Progress.Laws as P′
 use Rattle.sheet.proofs.take_next as take
@@ -240,7 +240,7 @@ module _ {M : Type 1} (𝓤 : URA M) (H : Heap 𝓤) (A : Atoms 𝓤) (W : Given
     goes-take : Fits p → Read (s .now) p ws ls → 0 < p .left
         → ent 𝓤 (⋆ 𝓤 H A (‵ (flft (ν ∷ []) fullShare) ∷ ‵ (flft (ν′ ∷ []) fullShare) ∷ ‵ (own-words (ν ∷ []) δ ws) ∷ ‵ (own-lows (ν′ ∷ []) δ′ ls) ∷ ‵ (S.the-row .own l (lv l ∷ [])) ∷ [])) (Take 𝓤 H A mem run .pre to-take)
     goes-take is r more =
-        qed W (‵ (flft (ν ∷ []) fullShare) ∷ ‵ (flft (ν′ ∷ []) fullShare) ∷ ‵ (own-words (ν ∷ []) δ ws) ∷ ‵ (own-lows (ν′ ∷ []) δ′ ls) ∷ ‵ (S.the-row .own l (lv l ∷ [])) ∷ []) ∵ says ! (ready (s .now) p ws ls r more) $
+        qed W (‵ (flft (ν ∷ []) fullShare) ∷ ‵ (flft (ν′ ∷ []) fullShare) ∷ ‵ (own-words (ν ∷ []) δ ws) ∷ ‵ (own-lows (ν′ ∷ []) δ′ ls) ∷ ‵ (S.the-row .own l (lv l ∷ [])) ∷ []) ∵ says ! (more, (s .now, r)) $
         nothing ! $ move ! (2 ∷ 0 ∷ []) $ join ! $ move ! (1 ∷ 0 ∷ []) $ join ! $ frame ! $ nothing ! $ move ! (3 ∷ 0 ∷ []) $ fjoin ! $
         owned ! P.the-row (Is P.the-row) (LL.makes P.the-type P′.the-plain 𝓤 H A) p _ is $ fjoin ! $ move ! (2 ∷ 0 ∷ []) $ fjoin ! $ move ! (1 ∷ 0 ∷ []) $ fjoin ! $ done !
 
@@ -350,7 +350,7 @@ module _ {M : Type 1} (𝓤 : URA M) (H : Heap 𝓤) (A : Atoms 𝓤) (W : Given
         n = 23 * p .taken
 
         fits : n + 23 < 2 ^ 64
-        fits = omega (arith, few (s .now) p ws ls r due)
+        fits = omega (arith, few r due)
 
         behind : (p′ : Progress) → p′ .taken ≡ p .taken + 1 → n + 23 ≡ 23 * p′ .taken
         behind p′ e = omega (arith, e)
@@ -383,7 +383,7 @@ module _ {M : Type 1} (𝓤 : URA M) (H : Heap 𝓤) (A : Atoms 𝓤) (W : Given
         by-left zero e = ends (y .0) (y .1) (y .2) (Below t) (fs .1) (fs .2) e
         by-left (suc m) e =
             let due : 0 < y .0 .left = omega arith in
-            let small = few (s .now) (y .0) (y .1) (y .2) (fs .1) due in
+            let small = few (fs .1) due in
             more (y .0) (y .1) (y .2) (Below t) (fs .1) (fs .2) due (λ p′ ws′ ls′ g. below t (t - 1) (p′, ws′, ls′) (omega (arith, fs .0, small)) (omega (arith, fs .0, small, g .0), g .1, g .2))
 
     turns : (t : ℕ) → ent 𝓤 (Inv t) (Wp 𝓤 H C Λ En body.turn-1 (afterTurn 𝓤 H (Below t) Left))
