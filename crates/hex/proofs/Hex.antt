@@ -11,12 +11,12 @@ use lib.Dec.{T, leb, ltb}
 use lib.ListN.{length, getD, take, drop, set, length-drop, List·getD-eq-default}
 use lib.Seq.{take-at, getD-drop}
 use borrow.Author.Count.{below-more}
-use borrow.Author.Tests.{le-leb, lt-leb, lt-ltb, le-ltb, leb-true, leb-false, ltb-true, ltb-false}
+use borrow.Author.Tests.{le-leb, lt-leb, lt-ltb, le-ltb, ltb-true, ltb-false}
 use mir.Facts.{or-yes, and-yes, leb-yes}
 use Rattle.word.specs.Buffer.{putAt}
 use Rattle.word.specs.Digits.{numberBE, digitsBE}
-use Rattle.word.proofs.Buffer.{getD-part, part-put, put-last}
-use Rattle.word.proofs.Digits.{number-lt, number-split, length-digits, digits-each, number-part, digits-number}
+use Rattle.word.proofs.Buffer.{getD-part, put-last}
+use Rattle.word.proofs.Digits.{number-lt, length-digits, digits-each, number-part, digits-number}
 use Rattle.hex.specs.Hex.{isHex, digitOf, hexes, hexAt, digitByte, hexDigits}
 
 -- ---- a digit
@@ -134,13 +134,6 @@ pub hexes-cut : (k : ℕ) (s : List ℕ) (at : ℕ) → zero < k → length s < 
 unfolding isHex
 hexes-cut k s at p h = hexes-not k s at (k - 1) (omega arith) (rw (List·getD-eq-default s 0 {n = at + (k - 1)} (omega arith)))
 
-pub hexes-within : (k : ℕ) (s : List ℕ) (at : ℕ) → zero < k → hexes k s at ≡ true → at + k ≤ length s
-hexes-within k s at p h = by (leb (at + k) (length s)) refl
-  where
-    by : (b : Bool) → leb (at + k) (length s) ≡ b → at + k ≤ length s
-    by true e = leb-true (at + k) (length s) e
-    by false e = absurd (false≢true (sym (hexes-cut k s at p (leb-false (at + k) (length s) e)) ∙ h))
-
 -- the first j and the other k
 pub hexes-split : (j k : ℕ) (s : List ℕ) (at : ℕ) → hexes (j + k) s at ≡ hexes j s at && hexes k s (at + j)
 unfolding hexes
@@ -156,10 +149,6 @@ hex-more k s at = rw (add-one k)
 pub hex-lt : (k : ℕ) (s : List ℕ) (at : ℕ) → hexAt k s at < 16 ^ k
 unfolding hexAt
 hex-lt k s at = number-lt 16 (λ (i : ℕ). digitOf (getD s (at + i) 0)) k (λ i l. digit-lt (getD s (at + i) 0))
-
-pub hex-split : (j k : ℕ) (s : List ℕ) (at : ℕ) → hexAt (j + k) s at ≡ hexAt j s at * 16 ^ k + hexAt k s (at + j)
-unfolding hexAt
-hex-split j k s at = number-split 16 (λ (i : ℕ). digitOf (getD s (at + i) 0)) j k ∙ simp add-assoc
 
 -- "22 hexadecimal digits": 6 for kind, row and column, and 16 for the 8 value bytes
 pub frame-digits : (s : List ℕ) (at : ℕ) → hexes 22 s at ≡ hexes 6 s at && hexes 16 s (at + 6)
@@ -182,20 +171,8 @@ hexes-back k n t at e =
     (λ i l. subst (λ (c : ℕ). isHex c ≡ true) (ap (λ (r : List ℕ). getD r i 0) (sym e) ∙ getD-part t at k i l)
     (digits-each (λ (c : ℕ). isHex c ≡ true) 16 digitByte (omega arith) (λ x m. digit-hex (byte-digit x m .0)) k n i l))
 
-put-part : (s : List ℕ) (at k n : ℕ) → at + k ≤ length s → take k (drop at (putAt s at (hexDigits k n))) ≡ hexDigits k n
-put-part s at k n h = let len = length-hex k n in rw len at (part-put s at (hexDigits k n) (omega arith))
-
-pub hex-put : (s : List ℕ) (at k n : ℕ) → n < 16 ^ k → at + k ≤ length s → hexAt k (putAt s at (hexDigits k n)) at ≡ n
-hex-put s at k n h l = hex-back k n h (putAt s at (hexDigits k n)) at (put-part s at k n l)
-
-pub hexes-put : (s : List ℕ) (at k n : ℕ) → at + k ≤ length s → hexes k (putAt s at (hexDigits k n)) at ≡ true
-hexes-put s at k n l = hexes-back k n (putAt s at (hexDigits k n)) at (put-part s at k n l)
-
 pub hex-front : (k n : ℕ) (rest : List ℕ) → n < 16 ^ k → hexAt k (hexDigits k n ++ rest) 0 ≡ n
 hex-front k n rest h = hex-back k n h (hexDigits k n ++ rest) 0 (take-at (hexDigits k n) rest k (length-hex k n))
-
-pub hexes-front : (k n : ℕ) (rest : List ℕ) → hexes k (hexDigits k n ++ rest) 0 ≡ true
-hexes-front k n rest = hexes-back k n (hexDigits k n ++ rest) 0 (take-at (hexDigits k n) rest k (length-hex k n))
 
 -- read and written
 pub digits-back : (k : ℕ) (s : List ℕ) (at : ℕ) → hexes k s at ≡ true → at + k ≤ length s → hexDigits k (hexAt k s at) ≡ take k (drop at s)

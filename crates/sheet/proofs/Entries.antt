@@ -23,8 +23,8 @@ use Rattle.line.specs.declared.Line.{Line}
 use Rattle.line.proofs.Laws.{framed, frame-end}
 use Rattle.frame.specs.declared.Value.{Value}
 use Rattle.frame.specs.declared.Value.the-variants.{Double, Fault}
-use Rattle.frame.specs.Frame.{dueAt, frameSizes, isDue, roundingOf, total, valueDouble, valueNumber, valueOf}
-use Rattle.frame.proofs.Sized.{differ, head-sizes, head-sound}
+use Rattle.frame.specs.Frame.{dueAt, isDue, roundingOf, total, valueDouble, valueNumber, valueOf}
+use Rattle.frame.proofs.Sized.{differ, head-sound}
 use Rattle.frame.proofs.Laws.{total-is}
 use Rattle.frame.proofs.Word.{due-double, word-rounded, word-scalable}
 use Rattle.lines.specs.Lines.{lineDouble, lineFault, lineValue, lineWord}
@@ -101,10 +101,6 @@ module _ (s : List ℕ) (e : sheetNumber s ≡ 0) where
 
   pub passes : ((k : ℕ) → k < total (p .sizes) → lineFault (p .sizes) s k ≡ 0) × (endNumber (p .sizes) s ≡ 0)
   passes = first-zero (lineFault (p .sizes) s) (total (p .sizes)) (endNumber (p .sizes) s) (p .number)
-
-  -- the sizes are those of line 01
-  pub sizes-read : sizesOf (sheetImage s) ≡ frameSizes (hexAt 2 s 2) (hexAt 2 s 4) (hexAt 16 s 6)
-  sizes-read = image-sizes s p ∙ head-sizes s 0 (p .sizes) (p .head) .1
 
   -- the words are the roundings of the sheet's doubles, entry by entry, in sheet order
   pub words-rounded : (i : ℕ) → i < bodyCount (sizesOf (sheetImage s)) → Rounded (sizesOf (sheetImage s)) s i
