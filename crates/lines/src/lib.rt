@@ -23,7 +23,8 @@ fn command_of(z: Sizes, d: Due) -> usize
     d.column * z.nu + d.row
 }
 
-// Takes line i after line 01. A low limit is kept as a double until its high limit is read; any other word is stored. What is promised holds of every text of which i lines are read and this is the next.
+// Takes line i after line 01. A low limit is kept as a double until its high limit is read; any other word is stored.
+// What is promised holds of every text of which i lines are read and this is the next.
 pub fn take_line(words: &mut [i64; 569], lows: &mut [f64; 16], l: Line, z: Sizes, i: usize) -> u32
     requires { ⌜ Sound z × (i < total z) × (length (now words) ≡ 569) × (length (now lows) ≡ 16) ⌝ }
     ensures { λ r. ⌜ ((s : List ℕ) → l ≡ lineAt s (23 * (i + 1)) → ReadTo z s i (now (words .entry)) (now (lows .entry)) → (r ≡ lineFault z s i) × (r ≡ 0 → ReadTo z s (i + 1) (now (words .exit)) (now (lows .exit)))) ⌝ }

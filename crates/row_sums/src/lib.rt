@@ -45,8 +45,8 @@ fn term_at(image: &[u8], row: &[u8], y: &[u64; 16], z: Sizes, t: Term, i: usize,
     match t {
         Term::Range => scaled(image::entry(row, z.b, i, j), y[j]),
         Term::GainRange(v) => {
-            let bound = magnitudes::size(image::limit_at(image, z, v, j));
-            scaled(word::word_at(row, 4 * j), bound)
+            let limit = magnitudes::size(image::limit_at(image, z, v, j));
+            scaled(word::word_at(row, 4 * j), limit)
         }
     }
 }

@@ -103,7 +103,8 @@ fn take_first(words: &mut [i64; 569], p: Progress, l: Line) -> Progress
     }
 }
 
-// Takes the next line, line 01 or one after it. What is promised holds of every text that is read this far and has this line next.
+// Takes the next line, line 01 or one after it. What is promised holds of every text that is read this far and has this
+// line next.
 fn take_next(words: &mut [i64; 569], lows: &mut [f64; 16], p: Progress, l: Line) -> Progress
     requires { ⌜ (0 < p .left) × ((s : List ℕ) × Read s p (now words) (now lows)) ⌝ }
     ensures { λ r. ⌜ (r .taken ≡ p .taken + 1) × ((s : List ℕ) → l ≡ lineAt s (23 * p .taken) → Read s p (now (words .entry)) (now (lows .entry)) → Read s r (now (words .exit)) (now (lows .exit))) ⌝ }
@@ -124,7 +125,8 @@ fn take_next(words: &mut [i64; 569], lows: &mut [f64; 16], p: Progress, l: Line)
     }
 }
 
-// Goes through a sheet line by line, until no line is due, with one reader: its proof is a walk by hand, so that all else stands in take_next.
+// Goes through a sheet line by line, until no line is due, with one reader. Its proof is a walk by hand, so all else
+// stands in take_next.
 fn read_through(words: &mut [i64; 569], lows: &mut [f64; 16], s: &[u8], first: Progress) -> Progress
     requires { ⌜ Read (now s) first (now words) (now lows) × (first .taken ≡ 0) ⌝ }
     ensures { λ r. ⌜ (r .left ≡ 0) × Read (now (s .entry)) r (now (words .exit)) (now (lows .exit)) ⌝ }

@@ -1,4 +1,5 @@
--- `line::next` meets its contract: a walk of its MIR, by hand. The reader is taken apart, `line_at` is called on the slice and the number, and a reader 23 bytes further is made. All that the proof knows of `line_at` is that it meets its contract.
+-- `line::next` meets its contract: a walk of its MIR, by hand. The reader is taken apart, `line_at` is called on the slice and the number, and
+-- a reader 23 bytes further is made. All that the proof knows of `line_at` is that it meets its contract.
 -- A reader is Copy: what it owns is had three times, for the exit, for the callee, beside the lifetime's token, which comes back, and for the reader behind the line.
 -- Assumes nothing.
 use native.Mathlib.Omega.{arith}

@@ -1,8 +1,13 @@
--- `sheet::read_through` meets its contract: a walk of its MIR, by hand, since a local holds the reader. All that the proof knows of `next` and `take_next` is that they meet their contracts.
---     At y         what the loop has: the two arrays, the text and the tokens owned, p and the reader in their cells, and room for the other locals. The reader stands at 23 times the lines taken
---     more, ends   a turn that takes a line, and the turn that leaves the loop, with the rest of the body.        loops    the loop, by the number of lines that may still be taken.        starts   the body up to the loop.        walk     the locals. In one lemma with `starts` the kernel's check meets its limit of steps
--- The text's slice is Copy: what it owns is had twice, once for the reader that goes to `next`. The two arrays are lent again for a lifetime of the call of `take_next`, and come back. What a `Progress` owns is made anew.
--- Assumes nothing.
+-- `sheet::read_through` meets its contract: a walk of its MIR, by hand, since a local holds the reader. All that the proof knows of `next` and
+-- `take_next` is that they meet their contracts.
+--     At y         what the loop has: the two arrays, the text and the tokens owned, p and the reader in their cells, and room for the other
+--                  locals; the reader stands at 23 times the lines taken
+--     more, ends   a turn that takes a line, and the turn that leaves the loop, with the rest of the body
+--     loops        the loop, by the number of lines that may still be taken
+--     starts       the body up to the loop
+--     walk         the locals; in one lemma with `starts` the kernel's check meets its limit of steps
+-- The text's slice is Copy: what it owns is had twice, once for the reader that goes to `next`. The two arrays are lent again for a lifetime of
+-- the call of `take_next`, and come back. What a `Progress` owns is made anew. Assumes nothing.
 use native.Mathlib.Omega.{arith}
 use mathlib.Core.Path.{_≡_, refl, ap, _∙_, subst}
 use Prim.Native.Nat.{ℕ, zero, suc, _+_, _-_, _*_, _<_, _^_}
