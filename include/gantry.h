@@ -88,7 +88,7 @@ uint32_t gantry_cold_start(const uint8_t *image, size_t image_len, uint8_t *star
  * the target is empty. Numbers: 0, 3, 5 to 17, tested 6, 3, 6, 5, 7, 17, 8 to 13, 16, 14, 15.
  * With 0, each command lies within the limits of its own step, and differs from the command of the exact scheme, which
  * rounds nothing, by at most its bound. A row's products are added in 64 bits, which they do not leave, and divided once,
- * so a row loses at most one count. A command is again a valid start. */
+ * so a row loses at most one count. The commands, the first 4n bytes, are again a start that a solve on this image accepts. */
 uint32_t gantry_solve(const uint8_t *image, size_t image_len, const uint8_t *state, size_t state_len,
                       const uint8_t *target, size_t target_len, const uint8_t *start, size_t start_len,
                       uint8_t *answer, size_t answer_len);
