@@ -2,7 +2,7 @@
 use mathlib.Core.Path.{_≡_, refl, sym, ap, _∙_, subst}
 use mathlib.Core.Bool.{Bool, true, false, _&&_, cond, not}
 use mathlib.Core.List.{List, [], _∷_, _++_, append-nil}
-use Prim.Native.Nat.{ℕ, _+_, _/_, _^_}
+use Prim.Native.Nat.{ℕ, _+_, _^_}
 use native.Mathlib.Omega.{arith}
 use lib.Dec.{T, eqb}
 use lib.IntN.{ℤ, pos}
@@ -14,8 +14,7 @@ use mir.Val.{SFits, ofZ}
 use Rattle.integer.proofs.Machine.{sfits-abs}
 use Rattle.integer.proofs.Tests.{both}
 use Rattle.word.specs.Buffer.{putAt}
-use Rattle.word.specs.Word.{bytesBE, bytesOf, wordBytes, wordsOut, patternBytes}
-use Rattle.word.specs.Digits.{digitsBE}
+use Rattle.word.specs.Word.{wordBytes, wordsOut, patternBytes}
 use Rattle.word.specs.Format.{isFormat, inWord}
 use Rattle.word.proofs.Format.{format, top-high, in-word-abs}
 use Rattle.word.proofs.Buffer.{put-put, put-whole}
@@ -83,14 +82,8 @@ unfolding wordsOut
 put-two out low high h =
     two out (wordBytes low) (wordBytes high) h (length-bytes 4 (ofZ w32 low)) (length-bytes 4 (ofZ w32 high)) ∙ ap (λ (r : List ℕ). wordBytes low ++ r) (sym (append-nil (wordBytes high)))
 
-halves : (n : ℕ) → bytesOf (n / 4294967296) ++ bytesOf n ≡ patternBytes n
-unfolding bytesBE digitsBE
-halves n =
-    let a : n / 256 / 256 / 256 / 256 ≡ n / 4294967296 = omega arith in
-    rw a
-
-pub put-halves : (out : List ℕ) (n : ℕ) → length out ≡ 8 → putAt (putAt out 0 (bytesOf (n / 4294967296))) 4 (bytesOf n) ≡ patternBytes n
-put-halves out n h = two out (bytesOf (n / 4294967296)) (bytesOf n) h (length-bytes 4 (n / 4294967296)) (length-bytes 4 n) ∙ halves n
+pub put-pattern : (out : List ℕ) (n : ℕ) → length out ≡ 8 → putAt out 0 (patternBytes n) ≡ patternBytes n
+put-pattern out n h = put-whole out (patternBytes n) (h ∙ sym (length-bytes 8 n))
 
 -- ---- the double of a word is no NaN
 quotient-no-nan : (x : Float) (z : ℤ) (d : ℕ) → HasQuotient x z d → T (not (isNan x))

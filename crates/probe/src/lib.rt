@@ -3,7 +3,6 @@ ghost use mathlib.Core.Path.{_≡_};
 ghost use mathlib.Core.Bool.{cond};
 ghost use lib.Dec.{eqb};
 ghost use lib.ListN.{length};
-ghost use Rattle.word.specs.Word.{patternBytes};
 ghost use Rattle.probe.specs.Probe.{roundingOf, wordNumber, wordAnswer, limitsNumber, limitsAnswer, doubleNumber, doubleAnswer};
 use double::Converted;
 use double::LimitWords;
@@ -64,15 +63,6 @@ pub extern "C" fn probe_inward(low: u64, high: u64, b: u32, w: u32, out: &mut [u
     }
 }
 
-// The eight bytes of a pattern.
-fn put_pattern(out: &mut [u8], n: u64)
-    requires { ⌜ length (now out) ≡ 8 ⌝ }
-    ensures { λ _. ⌜ now (out .exit) ≡ patternBytes n ⌝ }
-{
-    word::put_nat(out, 0, n / 4294967296);
-    word::put_nat(out, 4, n);
-}
-
 // A word's double as its pattern, written with a refusal's number too.
 #[no_mangle]
 pub extern "C" fn probe_to_double(value: i64, b: u32, w: u32, out: &mut [u8]) -> u32
@@ -83,6 +73,6 @@ pub extern "C" fn probe_to_double(value: i64, b: u32, w: u32, out: &mut [u8]) ->
         return 15;
     }
     let a = double::to_double(value, b, w);
-    put_pattern(out, f64::to_bits(a.value));
+    word::put_pattern(out, 0, f64::to_bits(a.value));
     a.number
 }

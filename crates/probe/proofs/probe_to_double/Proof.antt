@@ -9,7 +9,7 @@ use borrow.Author.Tests.{eq-eqb, ne-eqb}
 use Rattle.word.specs.Word.{patternBytes}
 use Rattle.double.specs.Double.{doubleAnswer, HasQuotient}
 use Rattle.double.specs.declared.DoubleAnswer.{DoubleAnswer}
-use Rattle.probe.proofs.Answers.{answer-no-nan, answer-below}
+use Rattle.probe.proofs.Answers.{put-pattern, answer-no-nan, answer-below}
 use Rattle.probe.proofs.probe_to_double.Statement.{statement}
 use Rattle.probe.proofs.probe_to_double.Tie as tie
 
@@ -46,7 +46,7 @@ returns-2 c =
     let a = start d .args in
     let e = ap (λ (r : DoubleAnswer). r .number) (converted d) in (
       rw (eq-eqb (length (a .out .now)) 8 (d .before .if1 .left)) e,
-      rw (e, answer-below (a .b) (a .w) (a .value)) (c .before .before .put-pattern .ensures ∙ ap (λ (r : DoubleAnswer). patternBytes (toBits binary64 (r .value))) (converted d)),
+      rw (e, answer-below (a .b) (a .w) (a .value)) (c .before .before .put-pattern .ensures ∙ put-pattern (a .out .now) (toBits binary64 (d .to-double .result .value)) (d .before .if1 .left) ∙ ap (λ (r : DoubleAnswer). patternBytes (toBits binary64 (r .value))) (converted d)),
     )
 
 pub probe-to-double-spec : {M : Type 1} → statement M
