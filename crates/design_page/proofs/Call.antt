@@ -6,6 +6,8 @@ use native.Mathlib.Omega.{arith}
 use lib.IntN.{ℤ}
 use lib.ListN.{length, take}
 use Rattle.image.specs.declared.Sizes.{Sizes}
+use Rattle.image.specs.Order.{bufferNumber}
+use Rattle.image.proofs.Ordering.{buffer-fits, buffer-refused}
 use Rattle.line.specs.Line.{lineAt}
 use Rattle.frame.specs.declared.Head.{Head}
 use Rattle.frame.specs.declared.Head.the-variants.{Sized, Unsized}
@@ -16,8 +18,8 @@ use Rattle.sheet.specs.Sheet.{linesWords, sheetNumber, sheetWords}
 use Rattle.sheet.proofs.Answer.{Passing, passing}
 use Rattle.sheet.proofs.Entries.{passes}
 use Rattle.sheet.proofs.Whole.{long}
-use Rattle.intake.specs.Intake.{bufferNumber, designNumber}
-use Rattle.intake.proofs.Call.{buffer-fits, buffer-refused, read-lines, refused-design, then-buffer}
+use Rattle.intake.specs.Intake.{designNumber}
+use Rattle.intake.proofs.Call.{read-lines, refused-design, then-buffer}
 use Rattle.design_page.specs.Page.{designCount, headCount, headPage, linesPage, pageNumber, sheetPage}
 
 -- ---- what line 01 gives

@@ -4,14 +4,14 @@ use mathlib.Core.List.{List, []}
 use lib.Ieee.{Float}
 use Rattle.word.specs.Buffer.{joined}
 use Rattle.double.specs.Double.{doubleValue}
-use Rattle.image.specs.Order.{orElse}
+use Rattle.image.specs.Order.{orElse, bufferNumber}
 use Rattle.image.specs.declared.Sizes.{Sizes}
 use Rattle.line.specs.Line.{lineAt}
 use Rattle.frame.specs.declared.Head.{Head}
 use Rattle.frame.specs.declared.Head.the-variants.{Sized, Unsized}
 use Rattle.frame.specs.Frame.{dueAt, headOf, total}
 use Rattle.lines.specs.Lines.{lineDouble, lineWord}
-use Rattle.intake.specs.Intake.{bufferNumber, designNumber}
+use Rattle.intake.specs.Intake.{designNumber}
 use Rattle.page_line.specs.declared.Effect.{Effect}
 use Rattle.page_line.specs.Effect.{effectOf, lineText}
 

@@ -6,15 +6,15 @@ use Prim.Native.Nat.{ℕ, _*_}
 use lib.Dec.{eqb}
 use lib.IntN.{ℤ}
 use lib.ListN.{length, take}
-use borrow.Author.Tests.{eq-eqb, ne-eqb}
+use borrow.Author.Tests.{ne-eqb}
 use Rattle.word.specs.Word.{wordsOut}
-use Rattle.image.specs.Order.{orElse}
-use Rattle.image.proofs.Ordering.{none, onward, refused}
+use Rattle.image.specs.Order.{orElse, bufferNumber}
+use Rattle.image.proofs.Ordering.{none, onward, refused, buffer-fits, buffer-refused}
 use Rattle.sheet.specs.Reading.{Answered}
 use Rattle.sheet.specs.Sheet.{sheetImage, sheetNumber, sheetWords}
 use Rattle.sheet.proofs.Answer.{image-length, read-fit, read-image, read-passing}
 use Rattle.sheet.proofs.Image.{image-whole}
-use Rattle.intake.specs.Intake.{ImageWords, bufferNumber, designNumber, intakeNumber, ownTables}
+use Rattle.intake.specs.Intake.{ImageWords, designNumber, intakeNumber, ownTables}
 
 -- ---- a refusal leaves the caller's buffer
 pub unwritten : (n : ℕ) (before written : List ℕ) → (n ≡ 0 → ⊥) → before ≡ cond (eqb n 0) written before
@@ -50,12 +50,6 @@ unfolding designNumber
 accepted-design s e = none (sheetNumber s) (ownTables (sheetImage s)) e
 
 -- ---- then 15
-pub buffer-fits : (size room : ℕ) → room ≡ size → 0 ≡ bufferNumber size room
-buffer-fits size room h = rw (eq-eqb room size h)
-
-pub buffer-refused : (size room : ℕ) → (room ≡ size → ⊥) → 15 ≡ bufferNumber size room
-buffer-refused size room h = rw (ne-eqb room size h)
-
 module _ (s : List ℕ) (n c : ℕ) (ws : List ℤ) (a : Answered (designNumber s) (sheetWords s) n c ws) where
   -- a design that is refused, whatever the buffer
   pub refused-design : (b : ℕ) → (n ≡ 0 → ⊥) → n ≡ orElse (designNumber s) b

@@ -7,6 +7,7 @@ use lib.IntN.{ℤ}
 use lib.ListN.{length, take}
 use borrow.Author.Tests.{eqb-true, eqb-false}
 use lib.Dec.{eqb}
+use Rattle.image.specs.Order.{bufferNumber}
 use Rattle.image.proofs.Ordering.{none}
 use Rattle.interface.specs.Tables.{imageNumber}
 use Rattle.sheet.specs.Laws.{driveRoom, reach}
@@ -15,7 +16,7 @@ use Rattle.sheet.specs.Sheet.{sheetImage, sheetNumber, sheetWords}
 use Rattle.sheet.proofs.Answer.{image-length, passing}
 use Rattle.sheet.proofs.Image.{image-body, image-head}
 use Rattle.sheet.proofs.Reach.{enough-image, enough-lines, same-image, same-number}
-use Rattle.intake.specs.Intake.{bufferNumber, designNumber, intakeImage, intakeNumber}
+use Rattle.intake.specs.Intake.{designNumber, intakeImage, intakeNumber}
 use Rattle.intake.proofs.Call.{accepted-design, refused-call, refused-lines}
 
 -- ---- an accepted sheet

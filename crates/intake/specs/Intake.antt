@@ -1,11 +1,10 @@
 -- Document 01, "Place of each check": the checks of a sheet's tables, then the buffer's length. Definitions only.
 use Prim.Native.Nat.{ℕ}
-use mathlib.Core.List.{List, [], _∷_}
+use mathlib.Core.List.{List}
 use lib.ListN.{length}
-use lib.Dec.{eqb}
 use lib.IntN.{ℤ}
 use Rattle.word.specs.Word.{wordsOut, Words}
-use Rattle.image.specs.Order.{check, firstFault, orElse}
+use Rattle.image.specs.Order.{orElse, bufferNumber}
 use Rattle.image.specs.Sizes.{Whole}
 use Rattle.image.specs.Layout.{sizesOf}
 use Rattle.interface.specs.Tables.{tablesNumber}
@@ -19,11 +18,7 @@ ownTables image = tablesNumber (sizesOf image) image
 unfoldable pub designNumber : List ℕ → ℕ
 designNumber sheet = orElse (sheetNumber sheet) (ownTables (sheetImage sheet))
 
--- "then 15", for a buffer of `room` bytes where `size` bytes are to be written
-abbrev pub bufferNumber : ℕ → ℕ → ℕ
-bufferNumber size room = firstFault (check 15 (eqb room size) ∷ [])
-
--- the number of the call, for a buffer of `room` bytes
+-- "then 15": the number of the call, for a buffer of `room` bytes
 unfoldable pub intakeNumber : List ℕ → ℕ → ℕ
 intakeNumber sheet room = orElse (designNumber sheet) (bufferNumber (length (sheetImage sheet)) room)
 
