@@ -1,5 +1,5 @@
 -- The arrays that are made of an image are those of its problem. Assumes nothing.
-use mathlib.Core.Path.{_≡_, sym, ap, subst, _∙_}
+use mathlib.Core.Path.{_≡_, refl, sym, subst, _∙_}
 use mathlib.Core.List.{List, []}
 use Prim.Native.Nat.{ℕ, _+_, _*_, _^_, _≤_, _<_}
 use native.Mathlib.Nat.{add-zero, zero-add}
@@ -12,6 +12,7 @@ use Rattle.word.proofs.Words.{getD-words-front}
 use Rattle.gradient.specs.Index.{sumZ, productAt}
 use Rattle.gradient.specs.Problem.{Command, Problem, F}
 use Rattle.gradient.specs.Scheme.{products, linear}
+use Rattle.gradient.specs.Exact.{exactLinear}
 use Rattle.gradient.specs.Bounds.{width}
 use Rattle.gradient.specs.Demand.{In64, RunningSums}
 use Rattle.gradient.proofs.Index.{sumZ-cong, sumZ-split, products-sum, running-sum, sum-front, sum-behind, tab-at}
@@ -27,7 +28,7 @@ use Rattle.array.specs.Arrays.{Filled, Tabled}
 use Rattle.dot.specs.Sums.{inputTerm, RunsTo}
 use Rattle.commands.specs.declared.CommandTerms.{CommandTerms}
 use Rattle.bounds.specs.declared.BoundTerms.{BoundTerms}
-use Rattle.loading.specs.Tables.{linearAt, CommandTermsOf, BoundTermsOf}
+use Rattle.loading.specs.Tables.{exactAt, linearAt, CommandTermsOf, BoundTermsOf}
 
 -- ---- the linear term
 -- a sum of neighbouring terms of an input's row
@@ -43,7 +44,7 @@ pub record LinearOf (z : Sizes) (image state target : List ℕ) (i : ℕ) (x y :
   pub state-runs : RunsTo (z .nx) (inputTerm (gainRow State z image i) x)
   pub target-runs : RunsTo (z .nr) (inputTerm (gainRow Target z image i) y)
   pub within : In64 (sumZ (inputTerm (gainRow State z image i) x) 0 (z .nx) +ℤ sumZ (inputTerm (gainRow Target z image i) y) 0 (z .nr))
-  pub divided : floor (sumZ (inputTerm (gainRow State z image i) x) 0 (z .nx) +ℤ sumZ (inputTerm (gainRow Target z image i) y) 0 (z .nr)) (2 ^ z .b) ≡ linearAt z image state target i
+  pub undivided : sumZ (inputTerm (gainRow State z image i) x) 0 (z .nx) +ℤ sumZ (inputTerm (gainRow Target z image i) y) 0 (z .nr) ≡ exactAt z image state target i
 
 -- the state's terms stand in front, the target's behind them, in the one row of the command, whose running sums are given
 module _ (z : Sizes) (image state target : List ℕ) (i : ℕ) (x y : List ℤ)
@@ -73,14 +74,18 @@ module _ (z : Sizes) (image state target : List ℕ) (i : ℕ) (x y : List ℤ)
   in64 a m h = running-sum (commandAt z image i .gains) (inputsOf z state target) w a m (omega (arith, gains-length z image i)) (omega (arith, inputs-length z state target))
 
   pub linear-of : LinearOf z image state target i x y
-  unfolding linear problemAt F
+  unfolding exactLinear
   linear-of = record {
     state-runs = λ a m h. rw (state-sum a m h) (in64 a m (omega arith));
     target-runs = λ a m h. rw (target-sum a m h) (in64 (z .nx + a) m (omega arith));
     within = rw whole-sum (in64 0 (z .nx + z .nr) (omega arith));
-    divided = ap (λ (s : ℤ). floor s (2 ^ z .b))
-        (whole-sum ∙ sym (products-sum (commandAt z image i .gains) (inputsOf z state target) (z .nx + z .nr) (gains-length z image i) (inputs-length z state target)));
+    undivided = whole-sum ∙ sym (products-sum (commandAt z image i .gains) (inputsOf z state target) (z .nx + z .nr) (gains-length z image i) (inputs-length z state target));
   }
+
+-- h is G divided
+pub linear-divided : (z : Sizes) (image state target : List ℕ) (i : ℕ) → floor (exactAt z image state target i) (2 ^ z .b) ≡ linearAt z image state target i
+unfolding linear exactLinear problemAt F
+linear-divided z image state target i = refl
 
 -- ---- the arrays of a problem
 pub nothing : Command

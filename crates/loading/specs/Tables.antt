@@ -5,6 +5,7 @@ use Prim.Native.Nat.{ℕ, _*_, _<_}
 use lib.IntN.{ℤ, pos, natAbs}
 use lib.ListN.{length}
 use Rattle.gradient.specs.Scheme.{products, linear}
+use Rattle.gradient.specs.Exact.{exactLinear}
 use Rattle.gradient.specs.Bounds.{width}
 use Rattle.gradient.specs.Demand.{RunningSums}
 use Rattle.image.specs.declared.Sizes.{Sizes}
@@ -16,7 +17,10 @@ use Rattle.commands.specs.declared.CommandTerms.{CommandTerms}
 use Rattle.bounds.specs.declared.BoundTerms.{BoundTerms}
 use Rattle.loading.specs.declared.Limits.{Limits}
 
--- "h = Φ times the state", with the "target products", at command i, and w
+-- at command i: G, "the sum of Φ times the state, undivided", with "the target products, undivided"; h, the same divided; w
+abbrev pub exactAt : Sizes → List ℕ → List ℕ → List ℕ → ℕ → ℤ
+exactAt z image state target i = exactLinear (inputsOf z state target) (commandAt z image i)
+
 abbrev pub linearAt : Sizes → List ℕ → List ℕ → List ℕ → ℕ → ℤ
 linearAt z image state target i = linear (problemAt z image) (inputsOf z state target) (commandAt z image i)
 

@@ -7,7 +7,7 @@ ghost use Rattle.image.specs.Layout.{gainRow};
 ghost use Rattle.array.specs.Arrays.{Filled, WordsTo};
 ghost use Rattle.gradient.specs.Index.{sumZ};
 ghost use Rattle.dot.specs.Sums.{inputTerm, RunsTo};
-ghost use Rattle.loading.specs.Tables.{linearAt, widthAt, LimitsOf, Loadable, CommandTermsOf, BoundTermsOf};
+ghost use Rattle.loading.specs.Tables.{exactAt, linearAt, widthAt, LimitsOf, Loadable, CommandTermsOf, BoundTermsOf};
 use bounds::BoundTerms;
 use commands::CommandTerms;
 use image::Input;
@@ -20,7 +20,7 @@ pub struct Limits {
 }
 
 // The limits of the image's commands.
-fn limits_of(image: &[u8], z: Sizes) -> Limits
+pub fn limits_of(image: &[u8], z: Sizes) -> Limits
     requires { ⌜ Whole z (now image) ⌝ }
     ensures { λ r. ⌜ LimitsOf z (now (image .entry)) r ⌝ }
 {
@@ -46,10 +46,10 @@ fn gain_sum(image: &[u8], x: &[i64; 16], z: Sizes, v: Input, i: usize) -> i64
     dot::row_sum(&image[at..], x, count)
 }
 
-// The linear term of each command: one sum over state and target, divided once.
-fn linear_terms(image: &[u8], state: &[u8], target: &[u8], z: Sizes) -> [i64; 16]
+// The linear term of each command, undivided: one sum over state and target.
+pub fn exact_terms(image: &[u8], state: &[u8], target: &[u8], z: Sizes) -> [i64; 16]
     requires { ⌜ Loadable z (now image) (now state) (now target) ⌝ }
-    ensures { λ r. ⌜ Filled (pos 0) (commandCount z) (linearAt z (now (image .entry)) (now (state .entry)) (now (target .entry))) r ⌝ }
+    ensures { λ r. ⌜ Filled (pos 0) (commandCount z) (exactAt z (now (image .entry)) (now (state .entry)) (now (target .entry))) r ⌝ }
 {
     let n = z.nu * z.steps;
     let x = array::words_of(state, z.nx);
@@ -57,8 +57,23 @@ fn linear_terms(image: &[u8], state: &[u8], target: &[u8], z: Sizes) -> [i64; 16
     let mut r = array::blank();
     let mut i = 0;
     while i < n {
-        let s = gain_sum(image, &x, z, Input::State, i) + gain_sum(image, &y, z, Input::Target, i);
-        r[i] = integer::floor_div(s, z.b);
+        r[i] = gain_sum(image, &x, z, Input::State, i) + gain_sum(image, &y, z, Input::Target, i);
+        i += 1;
+    }
+    r
+}
+
+// The same divided, once.
+fn linear_terms(image: &[u8], state: &[u8], target: &[u8], z: Sizes) -> [i64; 16]
+    requires { ⌜ Loadable z (now image) (now state) (now target) ⌝ }
+    ensures { λ r. ⌜ Filled (pos 0) (commandCount z) (linearAt z (now (image .entry)) (now (state .entry)) (now (target .entry))) r ⌝ }
+{
+    let n = z.nu * z.steps;
+    let g = exact_terms(image, state, target, z);
+    let mut r = array::blank();
+    let mut i = 0;
+    while i < n {
+        r[i] = integer::floor_div(g[i], z.b);
         i += 1;
     }
     r

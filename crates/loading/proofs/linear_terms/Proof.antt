@@ -2,124 +2,83 @@
 use native.Mathlib.Omega.{arith}
 use mathlib.Core.Path.{_≡_, ap, _∙_}
 use Prim.Native.Nat.{ℕ, _-_, _^_}
-use lib.IntN.{ℤ, pos, _+ℤ_}
-use mir.Syntax.{w64}
-use mir.Val.{SFits}
-use mir.Facts.{toZ-ofZ}
+use lib.IntN.{ℤ, pos}
+use lib.ListN.{getD}
 use Rattle.integer.specs.Round.{floor}
-use Rattle.integer.proofs.Machine.{back, fit-abs}
-use Rattle.gradient.specs.Index.{sumZ}
-use Rattle.image.specs.declared.Input.the-variants.{State, Target}
+use Rattle.integer.proofs.Machine.{back}
 use Rattle.image.specs.Sizes.{commandCount}
-use Rattle.image.specs.Layout.{gainRow}
-use Rattle.dot.specs.Sums.{inputTerm}
 use Rattle.array.proofs.Filling.{Filling, none, more, full}
 use Rattle.loading.specs.Tables.{linearAt}
-use Rattle.loading.proofs.Tables.{LinearOf, linear-of}
+use Rattle.loading.proofs.Tables.{linear-divided}
 use borrow.Author.Needs.{needs}
 use Rattle.loading.proofs.linear_terms.Statement.{statement}
 use Rattle.loading.proofs.linear_terms.Tie as tie
 
 abbrev Inv-loop : tie.InvT-loop
-Inv-loop image state target z n x y r₀ i₀ r i = Filling (pos 0) (λ k h. h ≡ linearAt z image state target k) n i r
+Inv-loop image state target z n g r₀ i₀ r i = Filling (pos 0) (λ k h. h ≡ linearAt z image state target k) n i r
 
 abbrev μ-loop : tie.MeasureT-loop
-μ-loop image state target z n x y r₀ i₀ r i = n - i
+μ-loop image state target z n g r₀ i₀ r i = n - i
 
 -- what a turn goes by
 module _ (l : tie.In-loop Inv-loop μ-loop) where
   abbrev a : tie.Start Inv-loop μ-loop
-  a = l .before .before .before .before .before .before .before .before .before
+  a = l .before .before .before .before .before .before .before .before
 
   abbrev i : ℕ
   i = l .before .loop .i
 
-  abbrev xs : tie.After-words-of Inv-loop μ-loop
-  xs = l .before .before .before .before
-
-  abbrev ys : tie.After-words-of2 Inv-loop μ-loop
-  ys = l .before .before .before
-
-  linear : LinearOf (a .args .z) (a .args .image .now) (a .args .state .now) (a .args .target .now) i (xs .words-of .result) (ys .words-of2 .result)
-  linear =
-      linear-of (a .args .z) (a .args .image .now) (a .args .state .now) (a .args .target .now) i (xs .words-of .result) (ys .words-of2 .result) (xs .words-of .ensures .0) (ys .words-of2 .ensures .0)
-      (a .pre .sums i (l .loop-test .taken))
-
--- a turn's two sums, and that they are one
-module _ (c : tie.After-gain-sum2 Inv-loop μ-loop) where
-  abbrev l : tie.In-loop Inv-loop μ-loop
-  l = c .before .before .before .before
-
-  abbrev x : ℤ
-  x = c .before .before .gain-sum .result
-
-  abbrev y : ℤ
-  y = c .gain-sum2 .result
-
-  abbrev whole : ℤ
-  whole =
-      sumZ (inputTerm (gainRow State (a l .args .z) (a l .args .image .now) (i l)) (xs l .words-of .result)) 0 (a l .args .z .nx)
-      +ℤ sumZ (inputTerm (gainRow Target (a l .args .z) (a l .args .image .now) (i l)) (ys l .words-of2 .result)) 0 (a l .args .z .nr)
-
-  one : x +ℤ y ≡ whole
-  one = cc (c .before .before .gain-sum .ensures, c .gain-sum2 .ensures)
-
-  fits : SFits w64 (x +ℤ y)
-  fits = fit-abs (x +ℤ y) (rw one (linear l .within))
+  abbrev g : tie.After-exact-terms Inv-loop μ-loop
+  g = l .before .before .before
 
 mul-n : tie.Need-mul-n Inv-loop μ-loop
 mul-n c = search needs
 
-words-of-requires : tie.Need-words-of-requires Inv-loop μ-loop
-words-of-requires c κs = search needs
-
-words-of-requires-2 : tie.Need-words-of-requires-2 Inv-loop μ-loop
-words-of-requires-2 c κs = search needs
+exact-terms-requires : tie.Need-exact-terms-requires Inv-loop μ-loop
+exact-terms-requires c κs = search needs
 
 blank-requires : tie.Need-blank-requires Inv-loop μ-loop
 blank-requires c κs = tt
 
 loop-holds : tie.Need-loop-holds Inv-loop μ-loop
 loop-holds c =
-    let a = c .before .before .before .before .before .before .before .args in
+    let a = c .before .before .before .before .before .before .args in
     none (pos 0) (λ k h. h ≡ linearAt (a .z) (a .image .now) (a .state .now) (a .target .now) k) (commandCount (a .z)) (c .blank .result) (c .blank .ensures)
 
-gain-sum-requires : tie.Need-gain-sum-requires Inv-loop μ-loop
-gain-sum-requires c κs = let l = c .before in ((a l .pre .whole, l .loop-test .taken), (xs l .words-of .ensures .1, linear l .state-runs))
+mul-floor-div : tie.Need-mul-floor-div Inv-loop μ-loop
+mul-floor-div c = omega arith
 
-gain-sum-requires-2 : tie.Need-gain-sum-requires-2 Inv-loop μ-loop
-gain-sum-requires-2 c κs = let l = c .before .before .before in ((a l .pre .whole, l .loop-test .taken), (ys l .words-of2 .ensures .1, linear l .target-runs))
-
-add-s : tie.Need-add-s Inv-loop μ-loop
-add-s c = rw (back (x c) (c .before .before .gain-sum .ok), back (y c) (c .gain-sum2 .ok)) (fits c)
+array-copy-out-floor-div : tie.Need-array-copy-out-floor-div Inv-loop μ-loop
+array-copy-out-floor-div c = omega (arith, g c .exact-terms .ensures .sized, a c .pre .whole .sizes .n-high)
 
 floor-div-requires : tie.Need-floor-div-requires Inv-loop μ-loop
-floor-div-requires c κs = omega (arith, a (l c) .pre .whole .sizes .b-high)
+floor-div-requires c κs = omega (arith, a (c .before) .pre .whole .sizes .b-high)
 
 mul-r : tie.Need-mul-r Inv-loop μ-loop
 mul-r c = omega arith
 
 array-set-from-r : tie.Need-array-set-from-r Inv-loop μ-loop
-array-set-from-r c = omega (arith, a (l (c .before)) .pre .whole .sizes .n-high)
+array-set-from-r c = omega (arith, a (c .before .before) .pre .whole .sizes .n-high)
 
 add-i : tie.Need-add-i Inv-loop μ-loop
-add-i c = omega (arith, a (l (c .before)) .pre .whole .sizes .n-high)
+add-i c = omega (arith, a (c .before .before) .pre .whole .sizes .n-high)
 
 loop-less : tie.Need-loop-less Inv-loop μ-loop
 loop-less c = omega arith
 
 loop-again : tie.Need-loop-again Inv-loop μ-loop
 loop-again c =
-    let g = c .before in
-    let s = a (l g) .args in
+    let l = c .before .before in
+    let s = a l .args in
     let q = c .floor-div in
-    let made = (rw (back (x g) (g .before .before .gain-sum .ok), back (y g) (g .gain-sum2 .ok), toZ-ofZ (fits g)) at (q .ensures)) ∙ ap (λ (h : ℤ). floor h (2 ^ s .z .b)) (one g) in
-    more (pos 0) (λ k h. h ≡ linearAt (s .z) (s .image .now) (s .state .now) (s .target .now) k) _ (a (l g) .pre .whole .sizes .n-high) (l g .loop-test .taken) (l g .before .loop .inv)
-    (back (q .result) (q .ok) ∙ made ∙ linear (l g) .divided)
+    let x = getD (g l .exact-terms .result) (i l) (pos 0) in
+    let made = (rw (back x (c .before .floor-div-arg .given)) at (q .ensures)) ∙ ap (λ (h : ℤ). floor h (2 ^ s .z .b)) (g l .exact-terms .ensures .each (i l) (l .loop-test .taken)) in
+    more (pos 0) (λ k h. h ≡ linearAt (s .z) (s .image .now) (s .state .now) (s .target .now) k) _ (a l .pre .whole .sizes .n-high) (l .loop-test .taken) (l .before .loop .inv)
+    (back (q .result) (q .ok) ∙ made ∙ linear-divided (s .z) (s .image .now) (s .state .now) (s .target .now) (i l))
 
 returns : tie.Need-returns Inv-loop μ-loop
 returns c =
-    let s = c .before .before .before .before .before .before .before .before .before .args in
+    let s = c .before .before .before .before .before .before .before .before .args in
     full (pos 0) (linearAt (s .z) (s .image .now) (s .state .now) (s .target .now)) (c .loop-test .left) (c .before .loop .inv)
 
 pub linear-terms-spec : {M : Type 1} → statement M
@@ -129,13 +88,11 @@ linear-terms-spec =
     Inv-loop
     μ-loop
     mul-n
-    words-of-requires
-    words-of-requires-2
+    exact-terms-requires
     blank-requires
     loop-holds
-    gain-sum-requires
-    gain-sum-requires-2
-    add-s
+    mul-floor-div
+    array-copy-out-floor-div
     floor-div-requires
     mul-r
     array-set-from-r
