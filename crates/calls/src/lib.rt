@@ -5,7 +5,7 @@ ghost use lib.ListN.{length};
 ghost use Rattle.gradient.specs.Demand.{startWithin};
 ghost use Rattle.image.specs.Sizes.{Whole, commandCount, inputCount};
 ghost use Rattle.image.specs.Layout.{sizesOf, problemAt};
-ghost use Rattle.interface.specs.Calls.{valuesWithin, inputPasses, startOf, callNumber, solveNumber, coldNumber};
+ghost use Rattle.interface.specs.Calls.{valuesWithin, inputPasses, startOf, callNumber, solvableNumber, solveNumber, coldNumber};
 use image::Input;
 use image::Sizes;
 use magnitudes::size;
@@ -53,10 +53,10 @@ fn start_passes(image: &[u8], z: Sizes, start: &[u8]) -> bool
     true
 }
 
-// Checks 13, 16, 14 and 15, in this order.
-pub fn call_number(image: &[u8], state: &[u8], target: &[u8], start: &[u8], room: usize) -> u32
+// Checks 13, 16 and 14, in this order.
+fn call_number(image: &[u8], state: &[u8], target: &[u8], start: &[u8]) -> u32
     requires { ⌜ Whole (sizesOf (now image)) (now image) ⌝ }
-    ensures { λ r. ⌜ r ≡ callNumber (now (image .entry)) (now (state .entry)) (now (target .entry)) (now (start .entry)) room ⌝ }
+    ensures { λ r. ⌜ r ≡ callNumber (now (image .entry)) (now (state .entry)) (now (target .entry)) (now (start .entry)) ⌝ }
 {
     let z = image::sizes_of(image);
     let n = z.nu * z.steps;
@@ -69,21 +69,34 @@ pub fn call_number(image: &[u8], state: &[u8], target: &[u8], start: &[u8], room
     if start.len() != 4 * n {
         return 14;
     }
-    if !start_passes(image, z, start) {
-        return 14;
+    if start_passes(image, z, start) { 0 } else { 14 }
+}
+
+// The number of a solve but for its buffer.
+pub fn solvable_number(image: &[u8], state: &[u8], target: &[u8], start: &[u8]) -> u32
+    ensures { λ r. ⌜ r ≡ solvableNumber (now (image .entry)) (now (state .entry)) (now (target .entry)) (now (start .entry)) ⌝ }
+{
+    let number = tables::image_number(image);
+    if number != 0 {
+        return number;
     }
-    if room == 8 * n { 0 } else { 15 }
+    call_number(image, state, target, start)
 }
 
 // The number of a solve, of an answer of `room` bytes.
 pub fn solve_number(image: &[u8], state: &[u8], target: &[u8], start: &[u8], room: usize) -> u32
     ensures { λ r. ⌜ r ≡ solveNumber (now (image .entry)) (now (state .entry)) (now (target .entry)) (now (start .entry)) room ⌝ }
 {
-    let number = tables::image_number(image);
+    let number = solvable_number(image, state, target, start);
     if number != 0 {
         return number;
     }
-    call_number(image, state, target, start, room)
+    let z = image::sizes_of(image);
+    if room == 8 * (z.nu * z.steps) + 8 {
+        0
+    } else {
+        15
+    }
 }
 
 // The number of a cold start, of an answer of `room` bytes.

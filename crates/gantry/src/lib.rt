@@ -39,7 +39,7 @@ pub extern "C" fn gantry_cold_start(image: &[u8], start: &mut [u8]) -> u32
     number
 }
 
-// Runs the image's sweeps from a start, and writes the commands and their bounds.
+// Runs the image's sweeps from a start, and writes the commands, their bounds and D.
 #[no_mangle]
 pub extern "C" fn gantry_solve(
     image: &[u8],

@@ -16,11 +16,12 @@ use Rattle.gradient.proofs.Tests.{of-true}
 use Rattle.image.specs.declared.Sizes.{Sizes}
 use Rattle.image.specs.declared.Input.{Input}
 use Rattle.image.specs.declared.Input.the-variants.{State, Target}
+use Rattle.image.specs.Order.{bufferNumber}
 use Rattle.image.specs.Sizes.{commandCount, inputCount}
 use Rattle.image.specs.Layout.{sizesOf, problemAt, problemOf, limitsOf}
 use Rattle.image.proofs.Ordering.{passed, both, none}
 use Rattle.interface.specs.Tables.{imageNumber}
-use Rattle.interface.specs.Calls.{valuesOf, inputsOf, startOf, valuesWithin, inputPasses, callNumber, solveNumber, coldNumber}
+use Rattle.interface.specs.Calls.{valuesOf, inputsOf, startOf, valuesWithin, inputPasses, callNumber, solvableNumber, answerLength, solveNumber, coldNumber}
 use Rattle.interface.specs.Accepted.{Solvable}
 use Rattle.interface.specs.Demand.{SolveClaim}
 use Rattle.interface.proofs.Accept.{accepted, limits-count}
@@ -45,10 +46,10 @@ inputs-within z image state target h k =
     rw (every2-append _ (valuesOf State z state) (valuesOf Target z target) (limitsOf State z image) (limitsOf Target z image) (values-count State z state ∙ sym (limits-count z image State)), h)
     k
 
--- number 0 of a solve: what its code requires, and the length of the answer
-pub solvable : (image state target start : List ℕ) (room : ℕ) → solveNumber image state target start room ≡ 0 → Solvable image state target start × (room ≡ 8 * commandCount (sizesOf image))
-unfolding solveNumber callNumber problemOf
-solvable image state target start room e =
+-- number 0 of a solve but for its buffer: what its code requires
+pub solvable : (image state target start : List ℕ) → solvableNumber image state target start ≡ 0 → Solvable image state target start
+unfolding solvableNumber callNumber problemOf
+solvable image state target start e =
     let a = none (imageNumber image) _ e in
     let z = sizesOf image in
     let p = problemOf image in
@@ -56,25 +57,38 @@ solvable image state target start room e =
     let p₂ = passed (inputPasses Target z image target) 16 _ (lit< tt) (p₁ .1) in
     let p₃ = passed (eqb (length start) (4 * commandCount z)) 14 _ (lit< tt) (p₂ .1) in
     let p₄ = passed (startWithin p (startOf z start)) 14 _ (lit< tt) (p₃ .1) in
-    let p₅ = passed (eqb room (8 * commandCount z)) 15 _ (lit< tt) (p₄ .1) in
     let x = both (eqb (length state) (4 * z .nx)) (valuesWithin State z image state) (p₁ .0) in
-    let t = both (eqb (length target) (4 * z .nr)) (valuesWithin Target z image target) (p₂ .0) in (
-      record {
-        accepted = accepted image (a .0);
-        state-size = eqb-true _ _ (x .0);
-        target-size = eqb-true _ _ (t .0);
-        inputs = of-true (inputs-within z image state target (x .1) (t .1));
-        start-size = eqb-true _ _ (p₃ .0);
-        starts = of-true (p₄ .0);
-      },
-      eqb-true _ _ (p₅ .0),
-    )
+    let t = both (eqb (length target) (4 * z .nr)) (valuesWithin Target z image target) (p₂ .0) in
+    record {
+      accepted = accepted image (a .0);
+      state-size = eqb-true _ _ (x .0);
+      target-size = eqb-true _ _ (t .0);
+      inputs = of-true (inputs-within z image state target (x .1) (t .1));
+      start-size = eqb-true _ _ (p₃ .0);
+      starts = of-true (p₄ .0);
+    }
+
+-- the image of such a solve
+pub solvable-image : (image state target start : List ℕ) → solvableNumber image state target start ≡ 0 → imageNumber image ≡ 0
+unfolding solvableNumber
+solvable-image image state target start e = none (imageNumber image) _ e .0
+
+-- number 0 of a buffer: its length
+buffer-length : (size room : ℕ) → bufferNumber size room ≡ 0 → room ≡ size
+buffer-length size room e = eqb-true _ _ (passed (eqb room size) 15 _ (lit< tt) e .0)
+
+-- number 0 of a solve
+pub accepted-solve : (image state target start : List ℕ) (room : ℕ) → solveNumber image state target start room ≡ 0
+    → (solvableNumber image state target start ≡ 0) × (room ≡ answerLength (sizesOf image))
+unfolding solveNumber
+accepted-solve image state target start room e =
+    let a = none (solvableNumber image state target start) _ e in
+    (a .0, buffer-length (answerLength (sizesOf image)) room (a .1))
 
 -- number 0 of a cold start: the length of its buffer
 pub cold-room : (image : List ℕ) (room : ℕ) → coldNumber image room ≡ 0 → room ≡ 4 * commandCount (sizesOf image)
 unfolding coldNumber
-cold-room image room e =
-    eqb-true _ _ (passed (eqb room (4 * commandCount (sizesOf image))) 15 _ (lit< tt) (none (imageNumber image) _ e .1) .0)
+cold-room image room e = buffer-length (4 * commandCount (sizesOf image)) room (none (imageNumber image) _ e .1)
 
 module _ (image state target start : List ℕ) (s : Solvable image state target start) where
   pub all-claims : Demand3 (problemOf image) (inputsOf (sizesOf image) state target) (startOf (sizesOf image) start)
@@ -87,7 +101,7 @@ module _ (image state target start : List ℕ) (s : Solvable image state target 
 
 -- the theorem: whatever a solve accepts
 pub demand3 : (image state target start : List ℕ) (room : ℕ) → solveNumber image state target start room ≡ 0 → SolveClaim image state target start
-demand3 image state target start room e = claims image state target start (solvable image state target start room e .0)
+demand3 image state target start room e = claims image state target start (solvable image state target start (accepted-solve image state target start room e .0))
 
 -- the first sweep, read off the claim on bytes
 pub first-sweep : (image state target start : List ℕ) → 1 ≤ sizesOf image .sweeps → SolveClaim image state target start → FirstSweep (problemOf image) (inputsOf (sizesOf image) state target) (startOf (sizesOf image) start)

@@ -1,18 +1,21 @@
--- 9 and 10: every row passes exactly where the least margin does, and the largest total. Assumes nothing.
+-- 9 and 10: every row passes exactly where the least margin does, and the largest total; no margin is below the least. Assumes nothing.
 use mathlib.Core.Path.{_≡_, refl, sym, ap, _∙_}
 use mathlib.Core.Bool.{Bool, true, false, cond, _&&_}
 use mathlib.Core.List.{List}
-use Prim.Native.Nat.{ℕ, zero, suc, _-_, _^_, _<_}
+use mathlib.Core.Logic.{⊎-elim}
+use Prim.Native.Nat.{ℕ, zero, suc, _-_, _^_, _≤_, _<_}
+use native.Mathlib.Nat.{eq-or-lt-of-le, le-of-suc-le-suc}
 use native.Mathlib.Omega.{arith}
 use lib.IntN.{ℤ, pos, negsuc}
 use lib.Signed.{leZ, leZ-yes, _≤ℤ_}
 use borrow.Author.Tests.{leb-false, le-leb}
 use Rattle.integer.proofs.Parts.{whole}
+use Rattle.integer.proofs.Laws.{≤ℤ-trans, ≤ℤ-of-≡}
 use Rattle.integer.proofs.Tests.{is-true, of-true}
 use Rattle.gradient.specs.Index.{allTo}
 use Rattle.image.specs.declared.Sizes.{Sizes}
 use Rattle.image.specs.Sizes.{commandCount}
-use Rattle.interface.specs.Tables.{marginTest, totalTest, marginAt, totalAt, leastTo, largestTo, leastMargin, largestTotal}
+use Rattle.interface.specs.Tables.{marginTest, totalTest, marginAt, totalAt, minZ, leastTo, largestTo, leastMargin, largestTotal}
 
 -- the least by an order that is transitive and total; the largest is the least by the opposite order
 module _ (le : ℤ → ℤ → Bool) (trans : (a c d : ℤ) → le a c ≡ true → le c d ≡ true → le a d ≡ true) (total : (a c : ℤ) → le a c ≡ false → le c a ≡ true) (k : ℤ) where
@@ -44,6 +47,21 @@ total (pos a) (pos c) e = le-leb c a (omega (arith, leb-false a c e))
 total (pos a) (negsuc c) e = refl
 total (negsuc a) (pos c) e = sym e
 total (negsuc a) (negsuc c) e = le-leb a c (omega (arith, leb-false c a e))
+
+-- none is below the least
+min-below : (a c : ℤ) → (minZ a c ≤ℤ a) × (minZ a c ≤ℤ c)
+min-below a c = by (leZ a c) refl
+  where
+    by : (t : Bool) → leZ a c ≡ t → (cond t a c ≤ℤ a) × (cond t a c ≤ℤ c)
+    by true e = (≤ℤ-of-≡ refl, leZ-yes (of-true e))
+    by false e = (leZ-yes (of-true (total a c e)), ≤ℤ-of-≡ refl)
+
+pub least-below : (f : ℕ → ℤ) (n i : ℕ) → i ≤ n → leastTo f n ≤ℤ f i
+least-below f zero zero h = ≤ℤ-of-≡ refl
+least-below f zero (suc i) h = absurd (omega arith)
+least-below f (suc n) i h =
+    let m = min-below (leastTo f n) (f (suc n)) in
+    ⊎-elim (λ e. rw e (m .1)) (λ l. ≤ℤ-trans (m .0) (least-below f n i (le-of-suc-le-suc l))) (eq-or-lt-of-le h)
 
 module _ (z : Sizes) (s : List ℕ) (h : 0 < commandCount z) where
   last : commandCount z ≡ suc (commandCount z - 1)

@@ -1,4 +1,5 @@
--- The same image with k as its sweeps: accepted too, and what a solve answers on it are the commands and bounds after k sweeps. Assumes nothing.
+-- The same image with k as its sweeps: accepted too, and what a solve answers on it are the commands, the bounds and D after k sweeps. Assumes
+-- nothing.
 use mathlib.Core.Path.{_≡_, refl, sym, ap, subst, _∙_}
 use mathlib.Core.Bool.{true, cond, _&&_}
 use mathlib.Core.List.{List, _++_, map, append-assoc}
@@ -11,7 +12,7 @@ use lib.IntN.{ℤ, pos, natAbs}
 use lib.ListN.{length, take, drop, length-append}
 use lib.Signed.{leZ}
 use lib.Seq.{drop-drop, take-at, drop-at, length-take-le, ext-getD}
-use Rattle.word.specs.Word.{natAt, wordAt, wordsAt, wordsOut, bytesOf}
+use Rattle.word.specs.Word.{natAt, wordAt, wordsAt, bytesOf}
 use Rattle.word.specs.Buffer.{putAt}
 use Rattle.word.specs.Format.{isFormat, inWord}
 use Rattle.word.proofs.Words.{nat-part, nat-drop, nat-back, word-drop, length-bytes, length-words-at, getD-words-at}
@@ -23,6 +24,7 @@ use Rattle.gradient.specs.Bounds.{rangeP, rangeY, rangeA, rangeB, Error, errorA
 use Rattle.gradient.proofs.Prefix.{iterate-prefix, error-prefix, start-prefix}
 use Rattle.gradient.proofs.Index.{tab-cong, sumN-cong}
 use Rattle.gradient.proofs.Tests.{all-cong}
+use Rattle.optimum.proofs.Prefix.{bound-prefix}
 use Rattle.image.specs.declared.Sizes.{Sizes}
 use Rattle.image.specs.declared.Input.{Input}
 use Rattle.image.specs.declared.Input.the-variants.{State, Target}
@@ -31,9 +33,9 @@ use Rattle.image.specs.Sizes.{between, sound, commandCount, inputCount, bodyCou
 use Rattle.image.specs.Layout.{sizesOf, problemOf, costAt, costRow, gainRow, lowerAt, upperAt, momentumAt, limitAt, entryOf, commandAt, problemAt, lowerPlace, upperPlace, momentumPlace, limitsFrom, limitsOf, costOffset, gainOffset}
 use Rattle.image.specs.Checks.{headNumber, wordTest, limitTest, bodyNumber}
 use Rattle.image.proofs.Ordering.{passed, both, none}
-use Rattle.interface.specs.Calls.{valuesOf, inputsOf, startOf, valuesWithin, callNumber, solveNumber, solveAnswer, answerAfter, commandsAfter, boundsAfter}
+use Rattle.interface.specs.Calls.{valuesOf, inputsOf, startOf, valuesWithin, callNumber, solvableNumber, answerLength, solveNumber, solveAnswer, answerAfter, commandsAfter, boundsAfter, distanceAfter}
 use Rattle.interface.specs.Demand.{withSweeps, Prefix}
-use Rattle.interface.specs.Tables.{orderTest, stopTest, symmetryTest, marginTest, totalTest, momentumRange, momentumRatio, rangeTest, rowTest, othersAt, marginAt, totalAt, leastTo, largestTo, leastMargin, largestTotal, eqZ, tablesNumber, imageNumber}
+use Rattle.interface.specs.Tables.{orderTest, stopTest, symmetryTest, marginTest, totalTest, momentumRange, momentumRatio, rangeTest, rowTest, othersAt, marginAt, totalAt, leastTo, largestTo, leastMargin, marginOf, largestTotal, eqZ, tablesNumber, imageNumber}
 use Rattle.interface.proofs.Accept.{accepted}
 
 least-cong : (f g : ℕ → ℤ) (n : ℕ) → ((i : ℕ) → f i ≡ g i) → leastTo f n ≡ leastTo g n
@@ -212,6 +214,11 @@ start-kept k z start = refl
 none-of : (a b : ℕ) → a ≡ 0 → b ≡ 0 → orElse a b ≡ 0
 none-of a b p q = rw p q
 
+-- nothing in the margins reads the sweeps
+margin-sweeps : (k : ℕ) (z : Sizes) (s : List ℕ) → leastMargin (resized k z) s ≡ leastMargin z s
+unfolding resized leastMargin marginAt othersAt
+margin-sweeps k z s = refl
+
 module _ (s : List ℕ) (k : ℕ) (long : 32 ≤ length s) (few : k ≤ 400) where
   kept-length : length (withSweeps k s) ≡ length s
   unfolding withSweeps
@@ -295,27 +302,62 @@ module _ (s : List ℕ) (k : ℕ) (long : 32 ≤ length s) (few : k ≤ 400) whe
   within-kept v values =
       rw (limits-same (resized k (sizesOf s)) (withSweeps k s) s body-kept v, limits-resized k v (sizesOf s) s, values-resized k v (sizesOf s) values)
 
-  call-kept : (state target start : List ℕ) (room : ℕ) → callNumber (withSweeps k s) state target start room ≡ callNumber s state target start room
-  unfolding callNumber resized
-  call-kept state target start room =
-      rw (sizes-resized, problem-resized, within-kept State state, within-kept Target target, start-kept k (sizesOf s) start, start-prefix (problemOf s) k (startOf (sizesOf s) start))
+  -- ---- a call
+  module _ (state target start : List ℕ) where
+    call-kept : callNumber (withSweeps k s) state target start ≡ callNumber s state target start
+    unfolding callNumber resized
+    call-kept =
+        rw (sizes-resized, problem-resized, within-kept State state, within-kept Target target, start-kept k (sizesOf s) start, start-prefix (problemOf s) k (startOf (sizesOf s) start))
 
-  answer-kept : (state target start : List ℕ) → solveAnswer (withSweeps k s) state target start ≡ answerAfter s state target start k
-  unfolding solveAnswer commandsAfter boundsAfter resized inputsOf valuesOf startOf
-  answer-kept state target start =
-      ap (λ (z : Sizes). out (problemOf (withSweeps k s)) z (z .sweeps)) sizes-resized
-      ∙ ap (λ (p : Problem). out p (resized k (sizesOf s)) k) problem-resized
-      ∙ ap (λ (x : Iterate). wordsOut (x .z) ++ wordsOut (map pos (errorAfter (withIterations k (problemOf s)) k .e))) (iterate-prefix (problemOf s) k (inputsOf (sizesOf s) state target) (startOf (sizesOf s) start) k)
-      ∙ ap (λ (x : Error). wordsOut (commandsAfter s state target start k) ++ wordsOut (map pos (x .e))) (error-prefix (problemOf s) k k)
-    where
-      out : Problem → Sizes → ℕ → List ℕ
-      out p z j = wordsOut (iterate p (inputsOf z state target) (startOf z start) j .z) ++ wordsOut (map pos (errorAfter p j .e))
+    room-kept : answerLength (sizesOf (withSweeps k s)) ≡ answerLength (sizesOf s)
+    unfolding resized
+    room-kept = ap answerLength sizes-resized
+
+    solve-kept : (room : ℕ) → 1 ≤ k → imageNumber s ≡ 0 → solveNumber (withSweeps k s) state target start room ≡ solveNumber s state target start room
+    unfolding solveNumber solvableNumber
+    solve-kept room one e = rw (number-kept one e, e, call-kept, room-kept)
+
+    -- ---- its answer after j sweeps
+    inputs-kept : inputsOf (sizesOf (withSweeps k s)) state target ≡ inputsOf (sizesOf s) state target
+    unfolding resized inputsOf valuesOf
+    inputs-kept = ap (λ (z : Sizes). inputsOf z state target) sizes-resized
+
+    commands-kept : (j : ℕ) → commandsAfter (withSweeps k s) state target start j ≡ commandsAfter s state target start j
+    unfolding commandsAfter resized startOf
+    commands-kept j =
+        ap (λ (p : Problem). iterate p (inputsOf (sizesOf (withSweeps k s)) state target) (startOf (sizesOf (withSweeps k s)) start) j .z) problem-resized
+        ∙ ap (λ (l : List ℤ). iterate (withIterations k (problemOf s)) l (startOf (sizesOf (withSweeps k s)) start) j .z) inputs-kept
+        ∙ ap (λ (z : Sizes). iterate (withIterations k (problemOf s)) (inputsOf (sizesOf s) state target) (startOf z start) j .z) sizes-resized
+        ∙ ap (λ (x : Iterate). x .z) (iterate-prefix (problemOf s) k (inputsOf (sizesOf s) state target) (startOf (sizesOf s) start) j)
+
+    bounds-kept : (j : ℕ) → boundsAfter (withSweeps k s) j ≡ boundsAfter s j
+    unfolding boundsAfter
+    bounds-kept j = ap (λ (p : Problem). errorAfter p j .e) problem-resized ∙ ap (λ (x : Error). x .e) (error-prefix (problemOf s) k j)
+
+    margin-kept : marginOf (withSweeps k s) ≡ marginOf s
+    unfolding marginOf leastMargin
+    margin-kept =
+        ap (λ (z : Sizes). natAbs (leastMargin z (withSweeps k s))) sizes-resized
+        ∙ ap natAbs (margin-sweeps k (sizesOf s) (withSweeps k s) ∙ least-cong (marginAt (sizesOf s) (withSweeps k s)) (marginAt (sizesOf s) s) (commandCount (sizesOf s) - 1) (margin-same (sizesOf s) (withSweeps k s) s body-kept))
+
+    distance-kept : (j : ℕ) → distanceAfter (withSweeps k s) state target start j ≡ distanceAfter s state target start j
+    unfolding distanceAfter
+    distance-kept j =
+        let inputs = inputsOf (sizesOf s) state target in
+        rw (problem-resized, margin-kept, inputs-kept, commands-kept j) (bound-prefix (problemOf s) k (marginOf s) inputs (commandsAfter s state target start j))
+
+    answer-kept : solveAnswer (withSweeps k s) state target start ≡ answerAfter s state target start k
+    unfolding solveAnswer resized
+    answer-kept =
+        ap (answerAfter (withSweeps k s) state target start) (ap (λ (z : Sizes). z .sweeps) sizes-resized) ∙ rw (commands-kept k, bounds-kept k, distance-kept k)
 
 -- the law, for every number of sweeps that an image may have
 pub prefix : (image state target start : List ℕ) (room k : ℕ) → imageNumber image ≡ 0 → 1 ≤ k → k ≤ 400 → Prefix image state target start room k
-unfolding solveNumber
 prefix image state target start room k e one few =
     let w = accepted image e .whole in
     let long : 32 ≤ length image = omega (arith, w .size) in
-    let n = number-kept image k long few one e in
-    record { accepted = n; number = rw (n, e) (call-kept image k long few state target start room); answer = answer-kept image k long few state target start }
+    record {
+      accepted = number-kept image k long few one e;
+      number = solve-kept image k long few state target start room one e;
+      answer = answer-kept image k long few state target start;
+    }

@@ -1,22 +1,23 @@
 -- The calls on an image: the number of each for every input, and the bytes that it answers. Assumes nothing.
-use Prim.Native.Nat.{ℕ, _*_}
+use Prim.Native.Nat.{ℕ, _+_, _*_}
 use mathlib.Core.Bool.{Bool, _&&_}
 use mathlib.Core.List.{List, [], _∷_, _++_, map}
 use lib.Dec.{eqb, leb}
 use lib.ListN.{length}
 use lib.IntN.{ℤ, pos, natAbs}
-use Rattle.word.specs.Word.{wordsAt, wordsOut}
+use Rattle.word.specs.Word.{wordsAt, wordsOut, patternBytes}
 use Rattle.gradient.specs.Problem.{coldStart}
 use Rattle.gradient.specs.Scheme.{iterate}
 use Rattle.gradient.specs.Bounds.{errorAfter}
 use Rattle.gradient.specs.Demand.{every2, startWithin}
+use Rattle.optimum.specs.Optimum.{optimumBound}
 use Rattle.image.specs.declared.Sizes.{Sizes}
 use Rattle.image.specs.declared.Input.{Input}
 use Rattle.image.specs.declared.Input.the-variants.{State, Target}
-use Rattle.image.specs.Order.{check, firstFault, orElse}
+use Rattle.image.specs.Order.{check, firstFault, orElse, bufferNumber}
 use Rattle.image.specs.Sizes.{commandCount, inputCount}
 use Rattle.image.specs.Layout.{sizesOf, problemOf, limitsOf}
-use Rattle.interface.specs.Tables.{imageNumber}
+use Rattle.interface.specs.Tables.{marginOf, imageNumber}
 
 -- "state and start are big-endian words as in the image", and so is a target: the values of an input
 unfoldable pub valuesOf : Input → Sizes → List ℕ → List ℤ
@@ -30,18 +31,15 @@ unfoldable pub startOf : Sizes → List ℕ → List ℤ
 startOf z start = wordsAt start 0 (commandCount z)
 
 -- ---- a cold start
-abbrev pub coldCallNumber : Sizes → ℕ → ℕ
-coldCallNumber z room = firstFault (check 15 (eqb room (4 * commandCount z)) ∷ [])
-
 -- "a cold start likewise without 13 and 14"
 unfoldable pub coldNumber : List ℕ → ℕ → ℕ
-coldNumber image room = orElse (imageNumber image) (coldCallNumber (sizesOf image) room)
+coldNumber image room = orElse (imageNumber image) (bufferNumber (4 * commandCount (sizesOf image)) room)
 
 -- "the cold start, 4n bytes", "all zeros"
 unfoldable pub coldAnswer : List ℕ → List ℕ
 coldAnswer image = wordsOut (coldStart (problemOf image))
 
--- ---- a solve
+-- ---- the number of a solve
 -- no value of an input is "beyond plus or minus its limit"
 unfoldable pub valuesWithin : Input → Sizes → List ℕ → List ℕ → Bool
 valuesWithin v z image values = every2 (λ (x : ℤ) (b : ℕ). leb (natAbs x) b) (valuesOf v z values) (limitsOf v z image)
@@ -50,9 +48,9 @@ valuesWithin v z image values = every2 (λ (x : ℤ) (b : ℕ). leb (natAbs x) b
 abbrev pub inputPasses : Input → Sizes → List ℕ → List ℕ → Bool
 inputPasses v z image values = eqb (length values) (4 * inputCount v z) && valuesWithin v z image values
 
--- 13, "directly after" it 16, 14, 15
-unfoldable pub callNumber : List ℕ → List ℕ → List ℕ → List ℕ → ℕ → ℕ
-callNumber image state target start room =
+-- 13, "directly after" it 16, 14
+unfoldable pub callNumber : List ℕ → List ℕ → List ℕ → List ℕ → ℕ
+callNumber image state target start =
     let z = sizesOf image in
     let p = problemOf image in
     firstFault
@@ -60,13 +58,21 @@ callNumber image state target start room =
     ∷ check 16 (inputPasses Target z image target)
     ∷ check 14 (eqb (length start) (4 * commandCount z))
     ∷ check 14 (startWithin p (startOf z start))
-    ∷ check 15 (eqb room (8 * commandCount z))
     ∷ [])
 
--- "a solve is tested 6, 3, 6, 5, then 7 to 15", with 17 after 7 and 16 after 13
-unfoldable pub solveNumber : List ℕ → List ℕ → List ℕ → List ℕ → ℕ → ℕ
-solveNumber image state target start room = orElse (imageNumber image) (callNumber image state target start room)
+-- "a solve is tested 6, 3, 6, 5, then 7 to" 14, with 17 after 7 and 16 after 13: all of it but its own buffer
+unfoldable pub solvableNumber : List ℕ → List ℕ → List ℕ → List ℕ → ℕ
+solvableNumber image state target start = orElse (imageNumber image) (callNumber image state target start)
 
+-- how long an answer is: "8n bytes", which request 8 lets grow "by one unsigned 64-bit word"
+abbrev pub answerLength : Sizes → ℕ
+answerLength z = 8 * commandCount z + 8
+
+-- then "15"
+unfoldable pub solveNumber : List ℕ → List ℕ → List ℕ → List ℕ → ℕ → ℕ
+solveNumber image state target start room = orElse (solvableNumber image state target start) (bufferNumber (answerLength (sizesOf image)) room)
+
+-- ---- the answer of a solve
 -- the commands and the bounds after k sweeps
 unfoldable pub commandsAfter : List ℕ → List ℕ → List ℕ → List ℕ → ℕ → List ℤ
 commandsAfter image state target start k = iterate (problemOf image) (inputsOf (sizesOf image) state target) (startOf (sizesOf image) start) k .z
@@ -74,9 +80,18 @@ commandsAfter image state target start k = iterate (problemOf image) (inputsOf (
 unfoldable pub boundsAfter : List ℕ → ℕ → List ℕ
 boundsAfter image k = errorAfter (problemOf image) k .e
 
--- the answer of k sweeps: "8n bytes: n commands, then n bounds as unsigned 32-bit words, big-endian too"
+-- D of the commands after k sweeps; after the image's own these are "the last commands z"
+unfoldable pub distanceAfter : List ℕ → List ℕ → List ℕ → List ℕ → ℕ → ℕ
+distanceAfter image state target start k =
+    optimumBound (problemOf image) (marginOf image) (inputsOf (sizesOf image) state target) (commandsAfter image state target start k)
+
+-- "8n bytes: n commands, then n bounds as unsigned 32-bit words, big-endian too"
+abbrev pub commandsAndBounds : List ℕ → List ℕ → List ℕ → List ℕ → ℕ → List ℕ
+commandsAndBounds image state target start k = wordsOut (commandsAfter image state target start k) ++ wordsOut (map pos (boundsAfter image k))
+
+-- the answer of k sweeps: behind them "one unsigned 64-bit word holding D, most significant byte first"
 abbrev pub answerAfter : List ℕ → List ℕ → List ℕ → List ℕ → ℕ → List ℕ
-answerAfter image state target start k = wordsOut (commandsAfter image state target start k) ++ wordsOut (map pos (boundsAfter image k))
+answerAfter image state target start k = commandsAndBounds image state target start k ++ patternBytes (distanceAfter image state target start k)
 
 -- "the answer" of a solve: after the image's own sweeps
 unfoldable pub solveAnswer : List ℕ → List ℕ → List ℕ → List ℕ → List ℕ

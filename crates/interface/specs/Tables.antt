@@ -53,6 +53,10 @@ marginTest z s i = leZ (pos 1) (marginAt z s i)
 abbrev pub totalTest : Sizes → List ℕ → ℕ → Bool
 totalTest z s i = leZ (totalAt z s i) (pos (2 ^ z .b))
 
+-- 9 and 10 pass in every row: what D of request 8 hangs on
+unfoldable pub distanceGiven : Sizes → List ℕ → Bool
+distanceGiven z s = allTo (marginTest z s) (commandCount z) && allTo (totalTest z s) (commandCount z)
+
 -- ---- 11
 abbrev pub minZ : ℤ → ℤ → ℤ
 minZ a c = cond (leZ a c) a c
@@ -75,6 +79,10 @@ leastMargin z s = leastTo (marginAt z s) (commandCount z - 1)
 
 unfoldable pub largestTotal : Sizes → List ℕ → ℤ
 largestTotal z s = largestTo (totalAt z s) (commandCount z - 1)
+
+-- request 8: "m the least margin of check 9 in counts"; the margin itself where 9 passes, as it does in every accepted image
+unfoldable pub marginOf : List ℕ → ℕ
+marginOf s = natAbs (leastMargin (sizesOf s) s)
 
 -- "β below 0 or above 2^b − 1"
 unfoldable pub momentumRange : Sizes → List ℕ → Bool

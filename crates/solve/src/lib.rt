@@ -1,11 +1,13 @@
-// A solve on an accepted image: the commands, their error bounds, and the answer's bytes. A cold start's bytes.
+// A solve on an accepted image: the commands, their error bounds, D, and the answer's bytes. A cold start's bytes.
 ghost use mathlib.Core.Path.{_≡_};
-ghost use Prim.Native.Nat.{_*_};
+ghost use mathlib.Core.List.{_++_, map};
+ghost use Prim.Native.Nat.{_+_, _*_};
+ghost use lib.IntN.{pos};
 ghost use lib.ListN.{length, replicate};
-ghost use Rattle.image.specs.Sizes.{commandCount};
+ghost use Rattle.word.specs.Word.{wordsOut, patternBytes, Words};
 ghost use Rattle.image.specs.Layout.{sizesOf};
-ghost use Rattle.interface.specs.Calls.{solveAnswer};
-ghost use Rattle.interface.specs.Accepted.{Accepted, Solvable};
+ghost use Rattle.interface.specs.Calls.{answerLength, solveAnswer};
+ghost use Rattle.interface.specs.Accepted.{Accepted, Solvable, Dominant};
 ghost use Rattle.solve.specs.Reached.{MatrixOf, CommandsOf, BoundsOf};
 
 // The commands after a number of iterations. Once one changes nothing, none after it does.
@@ -58,20 +60,39 @@ fn bounds_after(image: &[u8], m: [[i64; 16]; 16], count: usize) -> [u64; 16]
     e
 }
 
-// The commands and then the bounds after the image's number of iterations are written.
+// The commands and then the bounds are written.
+fn put_commands_and_bounds(out: &mut [u8], z: &[i64], e: &[u64])
+    requires { ⌜ (length (now out) ≡ 4 * length (now z) + 4 * length (now e)) × Words (now z) ⌝ }
+    ensures { λ _. ⌜ now (out .exit) ≡ wordsOut (now (z .entry)) ++ wordsOut (map pos (now (e .entry))) ⌝ }
+{
+    let at = 4 * z.len();
+    word::put_words(&mut out[..at], z);
+    array::put_bounds(&mut out[at..], e);
+}
+
+// And D behind them.
+fn put_answer(out: &mut [u8], z: &[i64], e: &[u64], d: u64)
+    requires { ⌜ (length (now out) ≡ 4 * length (now z) + 4 * length (now e) + 8) × Words (now z) ⌝ }
+    ensures { λ _. ⌜ now (out .exit) ≡ (wordsOut (now (z .entry)) ++ wordsOut (map pos (now (e .entry)))) ++ patternBytes d ⌝ }
+{
+    let at = out.len() - 8;
+    put_commands_and_bounds(&mut out[..at], z, e);
+    word::put_pattern(out, at, d);
+}
+
+// The commands, the bounds and D after the image's number of iterations are written.
 pub fn solve(image: &[u8], state: &[u8], target: &[u8], start: &[u8], answer: &mut [u8])
-    requires { ⌜ Solvable (now image) (now state) (now target) (now start) × (length (now answer) ≡ 8 * commandCount (sizesOf (now image))) ⌝ }
+    requires { ⌜ (Solvable (now image) (now state) (now target) (now start) × Dominant (now image)) × (length (now answer) ≡ answerLength (sizesOf (now image))) ⌝ }
     ensures { λ _. ⌜ now (answer .exit) ≡ solveAnswer (now (image .entry)) (now (state .entry)) (now (target .entry)) (now (start .entry)) ⌝ }
 {
     let s = image::sizes_of(image);
     let count = s.sweeps;
+    let n = s.nu * s.steps;
     let m = matrix::matrix(image, s);
     let z = commands_after(image, state, target, start, m, count);
     let e = bounds_after(image, m, count);
-    let n = answer.len() / 8;
-    let at = 4 * n;
-    word::put_words(&mut answer[..at], &z[..n]);
-    array::put_bounds(&mut answer[at..], &e[..n]);
+    let d = distance::distance(image, state, target, &m, &z);
+    put_answer(answer, &z[..n], &e[..n], d);
 }
 
 // The cold start is written: zeros, whatever the image.

@@ -49,9 +49,6 @@ at2 c = at1 (c .before .before)
 abbrev at3 : tie.Else3 → tie.After-sizes-of
 at3 c = at2 (c .before)
 
-abbrev at4 : tie.Else4 → tie.After-sizes-of
-at4 c = at3 (c .before .before)
-
 -- the tests that have passed at a place
 pass1 : (c : tie.Else1) → state-passes (at1 c) ≡ true
 pass1 c = sym (c .before .input-passes .ensures) ∙ not-false _ (c .if1 .left)
@@ -61,9 +58,6 @@ pass2 c = sym (c .before .input-passes2 .ensures) ∙ not-false _ (c .if2 .left)
 
 pass3 : (c : tie.Else3) → start-size (at3 c) ≡ true
 pass3 c = eq-eqb _ _ (c .if3 .left)
-
-pass4 : (c : tie.Else4) → start-within (at4 c) ≡ true
-pass4 c = sym (c .before .start-passes .ensures) ∙ not-false _ (c .if4 .left)
 
 sizes-of-requires : tie.Need-sizes-of-requires
 sizes-of-requires c κs = search needs
@@ -107,24 +101,14 @@ unfolding callNumber problemOf
 returns-4 c =
     let e = c .before .before in
     let d = at3 e in
-    rw (← (d .sizes-of .ensures), pass1 (e .before .before .before), pass2 (e .before), pass3 e, sym (c .before .start-passes .ensures) ∙ not-true _ (c .if4 .taken))
-
-mul-if5 : tie.Need-mul-if5
-mul-if5 c = search needs
+    rw (← (d .sizes-of .ensures), pass1 (e .before .before .before), pass2 (e .before), pass3 e, sym (c .before .start-passes .ensures) ∙ c .if4 .taken)
 
 returns-5 : tie.Need-returns-5
 unfolding callNumber problemOf
 returns-5 c =
-    let e = c .before in
-    let d = at4 e in
-    rw (← (d .sizes-of .ensures), pass1 (e .before .before .before .before .before), pass2 (e .before .before .before), pass3 (e .before .before), pass4 e, eq-eqb (a d .args .room) (8 * commandCount (z d)) (c .if5 .taken))
-
-returns-6 : tie.Need-returns-6
-unfolding callNumber problemOf
-returns-6 c =
-    let e = c .before in
-    let d = at4 e in
-    rw (← (d .sizes-of .ensures), pass1 (e .before .before .before .before .before), pass2 (e .before .before .before), pass3 (e .before .before), pass4 e, ne-eqb (a d .args .room) (8 * commandCount (z d)) (c .if5 .left))
+    let e = c .before .before in
+    let d = at3 e in
+    rw (← (d .sizes-of .ensures), pass1 (e .before .before .before), pass2 (e .before), pass3 e, sym (c .before .start-passes .ensures) ∙ c .if4 .left)
 
 pub call-number-spec : {M : Type 1} → statement M
 call-number-spec =
@@ -140,6 +124,4 @@ call-number-spec =
     returns-3
     start-passes-requires
     returns-4
-    mul-if5
-    returns-5
-    returns-6)
+    returns-5)

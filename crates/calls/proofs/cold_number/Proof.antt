@@ -2,14 +2,12 @@
 use native.Mathlib.Omega.{arith}
 use mathlib.Core.Path.{sym, ap, _∙_}
 use Prim.Native.Nat.{_*_}
-use borrow.Author.Tests.{eq-eqb, ne-eqb}
 use Rattle.image.specs.declared.Sizes.{Sizes}
 use Rattle.image.specs.Sizes.{Whole, commandCount}
 use Rattle.image.specs.Layout.{sizesOf}
-use Rattle.image.proofs.Ordering.{refused, onward}
+use Rattle.image.proofs.Ordering.{refused, onward, buffer-fits, buffer-refused}
 use Rattle.interface.specs.Calls.{coldNumber}
-use Rattle.interface.proofs.Accept.{accepted}
-use Rattle.interface.proofs.Accept.{whole-of}
+use Rattle.interface.proofs.Accept.{accepted, whole-of}
 use borrow.Author.Needs.{needs}
 use Rattle.calls.proofs.cold_number.Statement.{statement}
 use Rattle.calls.proofs.cold_number.Tie as tie
@@ -41,13 +39,13 @@ returns-2 : tie.Need-returns-2
 unfolding coldNumber
 returns-2 c =
     let d = c .before .before in
-    onward _ _ _ _ (d .before .before .image-number .ensures) (d .before .if1 .left) (rw (eq-eqb (d .before .before .before .before .args .room) (4 * commandCount (sizesOf (d .before .before .before .before .args .image .now))) (c .if2 .taken ∙ ap (λ (z : Sizes). 4 * commandCount z) (d .sizes-of .ensures))))
+    onward _ _ _ _ (d .before .before .image-number .ensures) (d .before .if1 .left) (buffer-fits _ _ (c .if2 .taken ∙ ap (λ (z : Sizes). 4 * commandCount z) (d .sizes-of .ensures)))
 
 returns-3 : tie.Need-returns-3
 unfolding coldNumber
 returns-3 c =
     let d = c .before .before in
-    onward _ _ _ _ (d .before .before .image-number .ensures) (d .before .if1 .left) (rw (ne-eqb (d .before .before .before .before .args .room) (4 * commandCount (sizesOf (d .before .before .before .before .args .image .now))) (λ e. c .if2 .left (e ∙ sym (ap (λ (z : Sizes). 4 * commandCount z) (d .sizes-of .ensures))))))
+    onward _ _ _ _ (d .before .before .image-number .ensures) (d .before .if1 .left) (buffer-refused _ _ (λ e. c .if2 .left (e ∙ sym (ap (λ (z : Sizes). 4 * commandCount z) (d .sizes-of .ensures)))))
 
 pub cold-number-spec : {M : Type 1} → statement M
 cold-number-spec =
