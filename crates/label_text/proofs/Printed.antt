@@ -7,7 +7,7 @@ use borrow.Author.Tests.{eq-eqb, ne-eqb}
 use Rattle.image.specs.Sizes.{commandCount}
 use Rattle.image.specs.Layout.{sizesOf}
 use Rattle.interface.specs.Tables.{imageNumber}
-use Rattle.interface.specs.Calls.{coldNumber, coldAnswer, solveNumber, solveAnswer}
+use Rattle.interface.specs.Calls.{coldNumber, coldAnswer, answerLength, solveNumber, solveAnswer}
 use Rattle.intake.specs.Intake.{intakeImage, intakeNumber}
 use Rattle.word_file.specs.WordFile.{fileWords}
 use Rattle.text.specs.Text.{lines, refusal}
@@ -28,7 +28,7 @@ module _ (image state target : List ℕ) where
 
   -- the number of the solve
   module _ (n : ℕ) (form : formNumber (sizesOf image) image state target ≡ 0)
-      (number : n ≡ solveNumber image (fileWords (sizesOf image .nx) state) (fileWords (sizesOf image .nr) target) (coldAnswer image) (8 * commandCount (sizesOf image))) where
+      (number : n ≡ solveNumber image (fileWords (sizesOf image .nx) state) (fileWords (sizesOf image .nr) target) (coldAnswer image) (answerLength (sizesOf image))) where
     pub refused : (n ≡ 0 → ⊥) → refusal n ≡ imageText image state target
     unfolding imageText filesNumber
     refused h = rw (form, sym number, ne-eqb n 0 h)

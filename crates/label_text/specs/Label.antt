@@ -1,12 +1,12 @@
 -- Document 01, "The label program", and document 02, request 1: what it prints for the bytes of drive.hex, state.hex and target.hex. Definitions only.
-use Prim.Native.Nat.{ℕ, _*_, _≤_}
+use Prim.Native.Nat.{ℕ, _≤_}
 use mathlib.Core.Path.{_≡_}
 use mathlib.Core.List.{List}
 use lib.ListN.{length, take}
 use Rattle.image.specs.Order.{orElse}
 use Rattle.image.specs.Sizes.{commandCount}
 use Rattle.image.specs.Layout.{sizesOf}
-use Rattle.interface.specs.Calls.{coldAnswer, solveNumber, solveAnswer}
+use Rattle.interface.specs.Calls.{coldAnswer, answerLength, solveNumber, solveAnswer}
 use Rattle.line.specs.Line.{lineAt}
 use Rattle.frame.specs.declared.Head.{Head}
 use Rattle.frame.specs.declared.Head.the-variants.{Sized, Unsized}
@@ -33,7 +33,7 @@ targetCount drive = headTargets (headOf (lineAt drive 0))
 unfoldable pub filesNumber : List ℕ → List ℕ → List ℕ → ℕ
 filesNumber image state target =
     let z = sizesOf image in
-    orElse (formNumber z image state target) (solveNumber image (fileWords (z .nx) state) (fileWords (z .nr) target) (coldAnswer image) (8 * commandCount z))
+    orElse (formNumber z image state target) (solveNumber image (fileWords (z .nx) state) (fileWords (z .nr) target) (coldAnswer image) (answerLength z))
 
 -- the lines of that solve's answer, or the refusal
 unfoldable pub imageText : List ℕ → List ℕ → List ℕ → List ℕ

@@ -76,12 +76,12 @@ fn image_text(image: &[u8], state: &[u8], target: &[u8]) -> Text
         &x[..4 * nx],
         &r[..4 * nr],
         &start[..4 * n],
-        &mut answer[..8 * n],
+        &mut answer[..8 * n + 8],
     );
     if number != 0 {
         return text::refusal_of(number);
     }
-    text::lines_of(&answer[..8 * n], n)
+    text::lines_of(&answer[..8 * n + 8], n)
 }
 
 // What the label program prints.

@@ -3,47 +3,62 @@ ghost use mathlib.Core.Path.{_≡_};
 ghost use Prim.Native.Nat.{_+_, _*_, _≤_};
 ghost use lib.ListN.{length};
 ghost use Rattle.word.specs.Buffer.{putAt};
-ghost use Rattle.text.specs.Text.{line, lines, refusal, Holds};
+ghost use Rattle.text.specs.Text.{distanceDigits, lineOf, lines, refusal, textRoom, Holds};
 
-// A text of at most 16 lines of 18 bytes, in front of the array.
+// A text of at most 16 lines of 35 bytes, in front of the array.
 pub struct Text {
-    pub bytes: [u8; 288],
+    pub bytes: [u8; 560],
     pub length: usize,
 }
 
 // Zeros. As a call, they keep their literals out of the goals.
-pub fn blank_text() -> [u8; 288]
-    ensures { λ r. ⌜ length r ≡ 288 ⌝ }
+pub fn blank_text() -> [u8; 560]
+    ensures { λ r. ⌜ length r ≡ textRoom ⌝ }
 {
-    [0; 288]
+    [0; 560]
 }
 
-fn put_line(out: &mut [u8], at: usize, command: u64, bound: u64)
-    requires { ⌜ at + 18 ≤ length (now out) ⌝ }
-    ensures { λ _. ⌜ now (out .exit) ≡ putAt (now (out .entry)) at (line command bound) ⌝ }
+// How many digits D takes, on every line the same.
+fn distance_digits(d: u64) -> usize
+    ensures { λ r. ⌜ (r ≡ distanceDigits d) × (r ≤ 16) ⌝ }
+{
+    if d < 4294967296 {
+        return 8;
+    }
+    16
+}
+
+fn put_line(out: &mut [u8], at: usize, command: u64, bound: u64, digits: usize, d: u64)
+    requires { ⌜ at + (19 + digits) ≤ length (now out) ⌝ }
+    ensures { λ _. ⌜ now (out .exit) ≡ putAt (now (out .entry)) at (lineOf command bound digits d) ⌝ }
 {
     hex::put_hex(out, at, 8, command);
     out[at + 8] = b' ';
     hex::put_hex(out, at + 9, 8, bound);
-    out[at + 17] = b'\n';
+    out[at + 17] = b' ';
+    hex::put_hex(out, at + 18, digits, d);
+    out[at + (18 + digits)] = b'\n';
 }
 
-// The lines of an answer: n commands, then their bounds.
+// The lines of an answer: n commands, then their bounds, then D.
 pub fn lines_of(answer: &[u8], n: usize) -> Text
-    requires { ⌜ (n ≤ 16) × (length (now answer) ≡ 8 * n) ⌝ }
+    requires { ⌜ (n ≤ 16) × (length (now answer) ≡ 8 * n + 8) ⌝ }
     ensures { λ r. ⌜ Holds (lines n (now (answer .entry)) n) r ⌝ }
 {
+    let d = word::pattern_at(answer, 8 * n);
+    let digits = distance_digits(d);
+    let size = 19 + digits;
     let mut bytes = blank_text();
     let mut k = 0;
     while k < n {
         let command = word::nat_at(answer, 4 * k);
         let bound = word::nat_at(answer, 4 * (n + k));
-        put_line(&mut bytes, 18 * k, command, bound);
+        put_line(&mut bytes, size * k, command, bound, digits, d);
         k += 1;
     }
     Text {
         bytes,
-        length: 18 * n,
+        length: size * n,
     }
 }
 

@@ -10,7 +10,7 @@ use borrow.Author.Tests.{eq-eqb}
 use Rattle.image.specs.Sizes.{Sound, Whole, commandCount}
 use Rattle.image.specs.Layout.{sizesOf}
 use Rattle.image.specs.declared.Sizes.{Sizes}
-use Rattle.interface.specs.Calls.{coldAnswer, solveNumber, solveAnswer}
+use Rattle.interface.specs.Calls.{coldAnswer, answerLength, solveNumber, solveAnswer}
 use Rattle.interface.proofs.Accept.{accepted, whole-of}
 use Rattle.word_file.specs.WordFile.{fileWords}
 use Rattle.text.specs.Text.{Holds, lines}
@@ -83,8 +83,8 @@ module _ (t : tie.After-blank-text) where
   cold-long : length (take (4 * count d) cold) ≡ 4 * count d
   cold-long = length-take-le (4 * count d) cold (omega (arith, sizes d .n-high, t .before .cold-start .ensures .0))
 
-  answer-long : length (take (8 * count d) (t .blank-text .result)) ≡ 8 * count d
-  answer-long = length-take-le (8 * count d) (t .blank-text .result) (omega (arith, sizes d .n-high, t .blank-text .ensures))
+  answer-long : length (take (answerLength (z d)) (t .blank-text .result)) ≡ answerLength (z d)
+  answer-long = length-take-le (answerLength (z d)) (t .blank-text .result) (omega (arith, sizes d .n-high, t .blank-text .ensures))
 
 -- the solve
 module _ (c : tie.After-gantry-solve) where
@@ -98,16 +98,16 @@ module _ (c : tie.After-gantry-solve) where
   out = c .gantry-solve .last .1 .1 .1 .1 .0
 
   abbrev unused : List ℕ
-  unused = drop (8 * count g) (t .blank-text .result)
+  unused = drop (answerLength (z g)) (t .blank-text .result)
 
   formed : formNumber (sizesOf (image g)) (image g) (state g) (target g) ≡ 0
   formed = form-is (e t .before) ∙ e t .if1 .left
 
   number : c .gantry-solve .result
-      ≡ solveNumber (image g) (fileWords (sizesOf (image g) .nx) (state g)) (fileWords (sizesOf (image g) .nr) (target g)) (coldAnswer (image g)) (8 * commandCount (sizesOf (image g)))
+      ≡ solveNumber (image g) (fileWords (sizesOf (image g) .nx) (state g)) (fileWords (sizesOf (image g) .nr) (target g)) (coldAnswer (image g)) (answerLength (sizesOf (image g)))
   number =
       (rw (t .before .before .before .file-words .ensures .1, t .before .before .file-words2 .ensures .1, t .before .cold-start .ensures .1, answer-long t) at (c .gantry-solve .ensures .0))
-      ∙ ap (λ (s : Sizes). solveNumber (image g) (fileWords (s .nx) (state g)) (fileWords (s .nr) (target g)) (coldAnswer (image g)) (8 * commandCount s)) (g .sizes-of .ensures)
+      ∙ ap (λ (s : Sizes). solveNumber (image g) (fileWords (s .nx) (state g)) (fileWords (s .nr) (target g)) (coldAnswer (image g)) (answerLength s)) (g .sizes-of .ensures)
 
   same-answer : solveAnswer (image g) (take (4 * z g .nx) (x t)) (take (4 * z g .nr) (r t)) (take (4 * count g) (cold t))
       ≡ solveAnswer (image g) (fileWords (sizesOf (image g) .nx) (state g)) (fileWords (sizesOf (image g) .nr) (target g)) (coldAnswer (image g))
@@ -115,11 +115,11 @@ module _ (c : tie.After-gantry-solve) where
       rw (t .before .before .before .file-words .ensures .1, t .before .before .file-words2 .ensures .1, t .before .cold-start .ensures .1)
       (ap (λ (s : Sizes). solveAnswer (image g) (fileWords (s .nx) (state g)) (fileWords (s .nr) (target g)) (coldAnswer (image g))) (g .sizes-of .ensures))
 
-  answer-room : length out ≡ 8 * count g
+  answer-room : length out ≡ answerLength (z g)
   answer-room = c .gantry-solve .kept .1 .1 .1 .1 .0 ∙ answer-long t
 
-  front : take (8 * count g) (out ++ unused) ≡ out
-  front = take-at out unused (8 * count g) answer-room
+  front : take (answerLength (z g)) (out ++ unused) ≡ out
+  front = take-at out unused (answerLength (z g)) answer-room
 
 sizes-of-requires : tie.Need-sizes-of-requires
 sizes-of-requires c κs = omega (arith, accepted (c .before .before .before .args .image .now) (c .before .before .before .pre) .whole .size)
@@ -181,6 +181,9 @@ slice-aggregate-gantry-solve-3 c = sym (cold-long (c .before .before .before))
 mul-answer : tie.Need-mul-answer
 mul-answer c = omega (arith, sizes (d (c .before .before .before)) .n-high)
 
+add-answer : tie.Need-add-answer
+add-answer c = omega (arith, sizes (d (c .before .before .before)) .n-high)
+
 array-borrow-prefix-answer : tie.Need-array-borrow-prefix-answer
 array-borrow-prefix-answer c = omega (arith, sizes (d (c .before .before .before)) .n-high, c .before .before .before .blank-text .ensures)
 
@@ -201,6 +204,9 @@ returns-2 c =
 mul-answer-2 : tie.Need-mul-answer-2
 mul-answer-2 c = omega (arith, sizes (g (c .before .before)) .n-high)
 
+add-answer-2 : tie.Need-add-answer-2
+add-answer-2 c = omega (arith, sizes (g (c .before .before)) .n-high)
+
 array-share-prefix-answer : tie.Need-array-share-prefix-answer
 array-share-prefix-answer c = omega (arith, answer-room (c .before .before), length-append (out (c .before .before)) (unused (c .before .before)))
 
@@ -215,7 +221,7 @@ returns-3 c =
     let k = c .before .before .before .before in
     let d = g k in
     let zero = c .before .before .if2 .left in
-    let e : lines (count d) (take (8 * count d) (out k ++ unused k)) (count d) ≡ imageText (image d) (state d) (target d) =
+    let e : lines (count d) (take (answerLength (z d)) (out k ++ unused k)) (count d) ≡ imageText (image d) (state d) (target d) =
     ap (λ (answer : List ℕ). lines (count d) answer (count d)) (front k ∙ (rw (eq-eqb (k .gantry-solve .result) 0 zero) at (k .gantry-solve .ensures .1 .0)) ∙ same-answer k)
     ∙ ap (λ (n : ℕ). lines n (solveAnswer (image d) (fileWords (sizesOf (image d) .nx) (state d)) (fileWords (sizesOf (image d) .nr) (target d)) (coldAnswer (image d))) n) (ap commandCount (d .sizes-of .ensures))
     ∙ answered (image d) (state d) (target d) (k .gantry-solve .result) (formed k) (number k) zero in
@@ -244,12 +250,14 @@ image-text-spec =
     array-share-prefix-start
     slice-aggregate-gantry-solve-3
     mul-answer
+    add-answer
     array-borrow-prefix-answer
     slice-aggregate-gantry-solve-4
     gantry-solve-requires
     refusal-of-requires-2
     returns-2
     mul-answer-2
+    add-answer-2
     array-share-prefix-answer
     slice-aggregate-lines-of
     lines-of-requires
