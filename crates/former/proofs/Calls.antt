@@ -10,7 +10,7 @@ use lib.Dec.{eqb}
 use lib.IntN.{ℤ, pos, natAbs}
 use lib.ListN.{drop, length}
 use lib.Signed.{leZ}
-use Rattle.word.specs.Word.{natAt, wordAt, wordsAt, wordsOut}
+use Rattle.word.specs.Word.{natAt, wordAt, wordsAt}
 use Rattle.gradient.specs.Problem.{Problem}
 use Rattle.gradient.specs.Scheme.{iterate}
 use Rattle.gradient.specs.Bounds.{errorAfter}
@@ -26,7 +26,7 @@ use Rattle.image.specs.Sizes.{commandCount, inputCount, bodyCount}
 use Rattle.image.specs.Layout.{sizesOf, upperPlace, momentumPlace, gainsFrom, limitsFrom, lowerPlace, lowerAt, upperAt, momentumAt, limitAt, gainsOf, limitsOf, commandAt, problemAt, problemOf}
 use Rattle.image.specs.Checks.{wordTest, limitTest, headNumber, bodyNumber}
 use Rattle.interface.specs.Tables.{orderTest, stopTest, momentumRange, momentumRatio, rangeTest, rowTest, tablesNumber, imageNumber}
-use Rattle.interface.specs.Calls.{valuesOf, inputsOf, startOf, valuesWithin, coldNumber, coldAnswer, callNumber, solveNumber, commandsAfter, boundsAfter, solveAnswer}
+use Rattle.interface.specs.Calls.{valuesOf, inputsOf, startOf, valuesWithin, coldNumber, coldAnswer, callNumber, solvableNumber, solveNumber, commandsAfter, boundsAfter, distanceAfter, commandsAndBounds, solveAnswer}
 use Rattle.former.specs.Version.{Version}
 use Rattle.former.specs.Former as former
 use Rattle.former.specs.Laws.{SameCalls}
@@ -189,9 +189,9 @@ module _ (v : Version) (s : List ℕ) (f : Fits v (sizesOf s)) where
     unfolding former.valuesWithin valuesOf wordsAt every2
     no-fault e = rw (none e, f .no-targets e)
 
-    call-same : (room : ℕ) → callNumber s state target start room ≡ former.callNumber v s state target start room
+    call-same : callNumber s state target start ≡ former.callNumber v s state target start
     unfolding callNumber former.callNumber
-    call-same room =
+    call-same =
         rw (whole-problem, within-same v z f s State state, within-same v z f s Target target)
         (part v (λ (l : List Check).
         firstFault
@@ -199,18 +199,42 @@ module _ (v : Version) (s : List ℕ) (f : Fits v (sizesOf s)) where
         ∷ l
         ++ check 14 (eqb (length start) (4 * commandCount z))
         ∷ check 14 (startWithin (former.problemOf v s) (startOf z start))
-        ∷ check 15 (eqb room (8 * commandCount z))
         ∷ [])) (check 16 (former.inputPasses v Target z s target) ∷ []) (λ e. rw (no-fault e)))
 
--- ---- the law
-pub same-calls : (v : Version) (image state target start : List ℕ) (room : ℕ) → Fits v (sizesOf image) → (v .targets ≡ false → target ≡ []) → SameCalls v image state target start room
-unfolding coldNumber former.coldNumber coldAnswer former.coldAnswer solveNumber former.solveNumber solveAnswer former.solveAnswer commandsAfter former.commandsAfter boundsAfter former.boundsAfter
-same-calls v image state target start room f none = record {
+    pub solvable-same : solvableNumber s state target start ≡ former.solvableNumber v s state target start
+    unfolding solvableNumber former.solvableNumber
+    solvable-same = rw (image-same, call-same)
+
+    -- the commands, the bounds and D after k sweeps
+    module _ (k : ℕ) where
+      commands-same : commandsAfter s state target start k ≡ former.commandsAfter v s state target start k
+      unfolding commandsAfter former.commandsAfter
+      commands-same =
+          ap (λ (l : List ℤ). iterate (problemOf s) l (startOf z start) k .z) inputs-same
+          ∙ ap (λ (p : Problem). iterate p (former.inputsOf v z state target) (startOf z start) k .z) whole-problem
+
+      bounds-same : boundsAfter s k ≡ former.boundsAfter v s k
+      unfolding boundsAfter former.boundsAfter
+      bounds-same = ap (λ (p : Problem). errorAfter p k .e) whole-problem
+
+      pub front-same : commandsAndBounds s state target start k ≡ former.commandsAndBounds v s state target start k
+      front-same = rw (commands-same, bounds-same)
+
+      pub distance-same : distanceAfter s state target start k ≡ former.distanceAfter v s state target start k
+      unfolding distanceAfter former.distanceAfter
+      distance-same = rw (inputs-same, whole-problem, commands-same)
+
+pub cold-same : (v : Version) (image : List ℕ) → Fits v (sizesOf image) → coldAnswer image ≡ former.coldAnswer v image
+unfolding coldAnswer former.coldAnswer
+cold-same v image f = rw (whole-problem v image f)
+
+-- ---- the law, of a version with request 8
+pub same-calls : (v : Version) (image state target start : List ℕ) (room : ℕ) → Fits v (sizesOf image) → v .distance ≡ true → (v .targets ≡ false → target ≡ [])
+    → SameCalls v image state target start room
+unfolding coldNumber former.coldNumber solveNumber former.solveNumber solveAnswer former.solveAnswer
+same-calls v image state target start room f d none = record {
   cold-number = rw (image-same v image f);
-  cold-answer = rw (whole-problem v image f);
-  number = rw (image-same v image f, call-same v image f state target start none room);
-  answer = ap (λ (x : List ℤ). out (problemOf image) x) (inputs-same v image f state target start none) ∙ ap (λ (p : Problem). out p (former.inputsOf v (sizesOf image) state target)) (whole-problem v image f);
+  cold-answer = cold-same v image f;
+  number = rw (solvable-same v image f state target start none, d);
+  answer = let k = sizesOf image .sweeps in rw (front-same v image f state target start none k, distance-same v image f state target start none k, d);
 }
-  where
-    out : Problem → List ℤ → List ℕ
-    out p inputs = wordsOut (iterate p inputs (startOf (sizesOf image) start) (sizesOf image .sweeps) .z) ++ wordsOut (map pos (errorAfter p (sizesOf image .sweeps) .e))

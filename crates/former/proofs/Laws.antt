@@ -24,13 +24,13 @@ use Rattle.former.specs.Laws.{SameSheet, SameCalls, fourthByte, WasTwo, 
 use Rattle.former.proofs.Calls.{same-calls}
 use Rattle.former.proofs.Sheets.{same-sheet}
 
--- ---- the definitions over a version, with all three requests, are those of today
+-- ---- the definitions over a version, with all four requests, are those of today
 pub restated : (sheet state target : List ℕ) (room : ℕ) → SameSheet today sheet state target room
-restated sheet = same-sheet today sheet (record { no-targets = λ e. absurd (true≢false e); one-step = λ e. absurd (true≢false e); nearest = refl })
+restated sheet = same-sheet today sheet (record { no-targets = λ e. absurd (true≢false e); one-step = λ e. absurd (true≢false e); nearest = refl }) refl
 
 pub restated-calls : (image state target start : List ℕ) (room : ℕ) → SameCalls today image state target start room
 restated-calls image state target start room =
-    same-calls today image state target start room (record { no-targets = λ e. absurd (true≢false e); one-step = λ e. absurd (true≢false e); nearest = refl }) (λ e. absurd (true≢false e))
+    same-calls today image state target start room (record { no-targets = λ e. absurd (true≢false e); one-step = λ e. absurd (true≢false e); nearest = refl }) refl (λ e. absurd (true≢false e))
 
 pub restated-word : (z : Sizes) (kind : ℕ) (x : Float) → wordOf z kind x ≡ former.wordOf today z kind x
 unfolding wordOf former.wordOf
@@ -38,16 +38,16 @@ restated-word z kind x = refl
 
 -- ---- request 1: the sheets with 0 as fourth value byte, the refused ones among them, and the images with 0 as word 6
 pub zero-byte : (sheet state target : List ℕ) (room : ℕ) → fourthByte (lineAt sheet 0) ≡ 0 → SameSheet beforeTargets sheet state target room
-zero-byte sheet state target room e = same-sheet beforeTargets sheet (record { no-targets = λ _. e; one-step = λ q. absurd (true≢false q); nearest = refl }) state target room
+zero-byte sheet state target room e = same-sheet beforeTargets sheet (record { no-targets = λ _. e; one-step = λ q. absurd (true≢false q); nearest = refl }) refl state target room
 
 pub zero-word : (image state start : List ℕ) (room : ℕ) → natAt image 24 ≡ 0 → SameCalls beforeTargets image state [] start room
 unfolding sizesOf
 zero-word image state start room e =
-    same-calls beforeTargets image state [] start room (record { no-targets = λ _. e; one-step = λ q. absurd (true≢false q); nearest = refl }) (λ _. refl)
+    same-calls beforeTargets image state [] start room (record { no-targets = λ _. e; one-step = λ q. absurd (true≢false q); nearest = refl }) refl (λ _. refl)
 
 -- what is given for a target has no say
 pub no-target : (s state target other start : List ℕ) (room : ℕ) → NoTarget s state target other start room
-unfolding former.solveNumber former.callNumber former.solveAnswer former.commandsAfter former.inputsOf former.labelText former.imageText former.filesNumber former.formNumber
+unfolding former.solveNumber former.solvableNumber former.callNumber former.solveAnswer former.commandsAfter former.distanceAfter former.inputsOf former.labelText former.imageText former.filesNumber former.formNumber
 no-target s state target other start room = record { number = refl; answer = refl; label = refl }
 
 -- with another byte a sheet was 2, with another word an image was 3, or 6 where it is too short
@@ -64,8 +64,8 @@ another-byte sheet state target room h = let e = two in record { number = rw e; 
         other (Frame kind row column bits) k = unfold former.headOf in rw (ne-eqb (bits / 0x1_0000_0000 % 256) 0 k, and-false (eqb kind 1))
 
 pub another-word : (image state target start : List ℕ) (room : ℕ) → (natAt image 24 ≡ 0 → ⊥) → WasThree image state target start room
-unfolding former.coldNumber former.solveNumber former.imageNumber former.headNumber
-another-word image state target start room h = record { cold-number = rw (head, first, first); number = rw (head, first, first) }
+unfolding former.coldNumber former.solveNumber former.solvableNumber former.imageNumber former.headNumber
+another-word image state target start room h = record { cold-number = rw (head, first, first); number = rw (head, first, first, first) }
   where
     head : former.headNumber beforeTargets image ≡ cond (leb 32 (length image)) 3 6
     head = rw (ne-eqb (natAt image 24) 0 h) (by (sound (sizesOf image)))
@@ -83,11 +83,11 @@ another-word image state target start room h = record { cold-number = rw (head, 
 
 -- ---- request 3: the sheets and the images with N 1
 pub one-step : (sheet state target : List ℕ) (room : ℕ) → stepsByte sheet ≡ 1 → SameSheet beforeHorizon sheet state target room
-one-step sheet state target room e = same-sheet beforeHorizon sheet (record { no-targets = λ q. absurd (true≢false q); one-step = λ _. e; nearest = refl }) state target room
+one-step sheet state target room e = same-sheet beforeHorizon sheet (record { no-targets = λ q. absurd (true≢false q); one-step = λ _. e; nearest = refl }) refl state target room
 
 pub one-step-calls : (image state target start : List ℕ) (room : ℕ) → sizesOf image .steps ≡ 1 → SameCalls beforeHorizon image state target start room
 one-step-calls image state target start room e =
-    same-calls beforeHorizon image state target start room (record { no-targets = λ q. absurd (true≢false q); one-step = λ _. e; nearest = refl }) (λ q. absurd (true≢false q))
+    same-calls beforeHorizon image state target start room (record { no-targets = λ q. absurd (true≢false q); one-step = λ _. e; nearest = refl }) refl (λ q. absurd (true≢false q))
 
 -- ---- request 7
 pub others-kept : (z : Sizes) (kind : ℕ) (x : Float) → OthersKept z kind x

@@ -17,7 +17,7 @@ use Rattle.image.specs.Checks.{headNumber}
 use Rattle.image.proofs.Ordering.{passed}
 use Rattle.image.proofs.Sized.{sound-facts}
 use Rattle.interface.specs.Tables.{imageNumber}
-use Rattle.interface.specs.Calls.{coldNumber, solveNumber}
+use Rattle.interface.specs.Calls.{coldNumber, solvableNumber, solveNumber}
 use Rattle.line.specs.Line.{lineAt}
 use Rattle.line.specs.declared.Line.{Line}
 use Rattle.line.specs.declared.Line.the-variants.{Frame, Malformed, End}
@@ -108,7 +108,7 @@ more-steps sheet state target room h more = record {
 
 -- the images that pass 6, 3 and 6 by them, so all that they accept
 pub more-steps-calls : (image state target start : List ℕ) (room : ℕ) → former.headNumber beforeHorizon image ≡ 0 → 1 < sizesOf image .steps → NowSix image state target start room
-unfolding former.headNumber imageNumber headNumber coldNumber solveNumber
+unfolding former.headNumber imageNumber headNumber coldNumber solveNumber solvableNumber
 more-steps-calls image state target start room h more =
     let z = sizesOf image in
     let p₁ = passed (leb 32 (length image)) 6 _ (omega arith) h in

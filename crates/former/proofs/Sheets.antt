@@ -3,12 +3,12 @@
 use mathlib.Core.Path.{_≡_, refl, ap, _∙_}
 use mathlib.Core.Bool.{Bool, true, false, cond, _&&_, _||_}
 use mathlib.Core.List.{List, [], _∷_, _++_}
-use Prim.Native.Nat.{ℕ, _*_, _/_, _%_}
+use Prim.Native.Nat.{ℕ, _/_, _%_}
 use lib.Dec.{eqb}
 use lib.IntN.{ℤ}
 use lib.Ieee.{Float}
 use lib.ListN.{length}
-use borrow.Author.Tests.{eqb-true}
+use borrow.Author.Tests.{eqb-true, eq-eqb}
 use Rattle.word.specs.Buffer.{joined}
 use Rattle.word.proofs.Joined.{joined-cong}
 use Rattle.double.specs.Double.{convertedNumber}
@@ -16,10 +16,11 @@ use Rattle.gradient.specs.Index.{tab}
 use Rattle.gradient.proofs.Index.{tab-cong}
 use Rattle.image.specs.declared.Sizes.{Sizes}
 use Rattle.image.specs.declared.Input.the-variants.{State}
-use Rattle.image.specs.Order.{Check, check, firstFault}
+use Rattle.image.specs.Order.{Check, check, firstFault, bufferNumber}
 use Rattle.image.specs.Sizes.{commandCount, sound}
 use Rattle.image.specs.Layout.{sizesOf}
 use Rattle.image.proofs.Ordering.{none}
+use Rattle.interface.specs.Calls.{answerLength, solveNumber, solveAnswer}
 use Rattle.line.specs.Line.{lineAt}
 use Rattle.line.specs.declared.Line.{Line}
 use Rattle.line.specs.declared.Line.the-variants.{Frame, Malformed, End}
@@ -35,17 +36,17 @@ use Rattle.sheet.specs.Sheet.{linesNumber, linesWords, headNumber, headWords, s
 use Rattle.sheet.proofs.Answer.{passing}
 use Rattle.sheet.proofs.Image.{image-sizes}
 use Rattle.sheet.proofs.Reach.{first-cong}
-use Rattle.intake.specs.Intake.{bufferNumber, designNumber, intakeNumber, intakeImage, ownTables}
+use Rattle.intake.specs.Intake.{designNumber, intakeNumber, intakeImage, ownTables}
 use Rattle.design_page.specs.Page.{pageLine, linesPage, headPage, headCount, sheetPage, designCount, pageNumber}
 use Rattle.word_file.specs.WordFile.{isWordFile, fileWords}
-use Rattle.text.specs.Text.{refusal}
+use Rattle.text.specs.Text.{lines, refusal}
 use Rattle.label_files.specs.Files.{targetForm, formNumber}
 use Rattle.label_text.specs.Label.{filesNumber, imageText, labelText}
 use Rattle.page_text.specs.Text.{pageText}
 use Rattle.former.specs.Version.{Version}
 use Rattle.former.specs.Former as former
-use Rattle.former.specs.Laws.{SameSheet, SameCalls, fourthByte, stepsByte}
-use Rattle.former.proofs.Calls.{Fits, part, same-calls, tables-same, within-same}
+use Rattle.former.specs.Laws.{SameSheet, fourthByte, stepsByte}
+use Rattle.former.proofs.Calls.{Fits, part, cold-same, solvable-same, same-calls, tables-same, within-same}
 use Rattle.former.proofs.Due.{due-same, total-same}
 
 -- ---- the lines after line 01
@@ -93,10 +94,9 @@ module _ (v : Version) (image state target : List ℕ) (f : Fits v (sizesOf imag
   abbrev z : Sizes
   z = sizesOf image
 
-  -- the solve from the cold start
-  calls : SameCalls v image (fileWords (z .nx) state) (fileWords (z .nr) target) (former.coldAnswer v image) (8 * commandCount z)
+  no-file : v .targets ≡ false → fileWords (z .nr) target ≡ []
   unfolding fileWords joined
-  calls = same-calls v image (fileWords (z .nx) state) (fileWords (z .nr) target) (former.coldAnswer v image) (8 * commandCount z) f (λ e. rw (f .no-targets e))
+  no-file e = rw (f .no-targets e)
 
   form-same : formNumber z image state target ≡ former.formNumber v z image state target
   unfolding formNumber former.formNumber targetForm
@@ -105,13 +105,31 @@ module _ (v : Version) (image state target : List ℕ) (f : Fits v (sizesOf imag
       (part v (λ (l : List Check). firstFault (check 13 (isWordFile (z .nx) state) ∷ check 13 (former.inputPasses v State z image (fileWords (z .nx) state)) ∷ l))
       (check 16 (targetForm (z .nr) target) ∷ []) (λ e. rw (f .no-targets e)))
 
-  files-same : filesNumber image state target ≡ former.filesNumber v image state target
-  unfolding filesNumber former.filesNumber
-  files-same = rw (form-same, calls .cold-answer, calls .number)
+  -- the solve from the cold start: the buffer has the answer's length on either side
+  pub files-same : filesNumber image state target ≡ former.filesNumber v image state target
+  unfolding filesNumber former.filesNumber solveNumber former.solveNumber
+  files-same =
+      rw (
+        form-same,
+        cold-same v image f,
+        solvable-same v image f (fileWords (z .nx) state) (fileWords (z .nr) target) (former.coldAnswer v image) no-file,
+        eq-eqb (answerLength z) (answerLength z) refl,
+        eq-eqb (former.answerLength v z) (former.answerLength v z) refl,
+      )
 
-  text-same : imageText image state target ≡ former.imageText v image state target
-  unfolding imageText former.imageText
-  text-same = rw (files-same, calls .cold-answer, calls .answer)
+  -- its lines, with request 8
+  module _ (d : v .distance ≡ true) where
+    answer-same : solveAnswer image (fileWords (z .nx) state) (fileWords (z .nr) target) (former.coldAnswer v image)
+        ≡ former.solveAnswer v image (fileWords (z .nx) state) (fileWords (z .nr) target) (former.coldAnswer v image)
+    answer-same = same-calls v image (fileWords (z .nx) state) (fileWords (z .nr) target) (former.coldAnswer v image) 0 f d no-file .answer
+
+    lines-same-text : (n : ℕ) (answer : List ℕ) (k : ℕ) → lines n answer k ≡ former.lines v n answer k
+    unfolding lines former.lines former.lineOf
+    lines-same-text n answer k = rw d
+
+    text-same : imageText image state target ≡ former.imageText v image state target
+    unfolding imageText former.imageText
+    text-same = rw (files-same, cold-same v image f, answer-same, lines-same-text (commandCount z))
 
 -- ---- line 01
 -- one that needs none of the requests that a version lacks
@@ -159,12 +177,12 @@ module _ (v : Version) (s : List ℕ) (fit : FitsSheet v s) where
   unfolding sheetNumber former.sheetNumber
   sheet-number = rw (← same) (after-same (headOf (lineAt s 0)) fits .0)
 
-  sheet-image : sheetImage s ≡ former.sheetImage v s
+  pub sheet-image : sheetImage s ≡ former.sheetImage v s
   unfolding sheetImage former.sheetImage sheetWords former.sheetWords
   sheet-image = rw (sheet-number, ← same, after-same (headOf (lineAt s 0)) fits .1)
 
   -- the sizes of the image of a sheet that passes
-  image-fits : sheetNumber s ≡ 0 → Fits v (sizesOf (sheetImage s))
+  pub image-fits : sheetNumber s ≡ 0 → Fits v (sizesOf (sheetImage s))
   image-fits q = let p = passing s q in rw (image-sizes s p) (fits (p .sizes) (p .head))
 
   design-same : designNumber s ≡ former.designNumber v s
@@ -175,7 +193,7 @@ module _ (v : Version) (s : List ℕ) (fit : FitsSheet v s) where
       by true q = tables-same v (sizesOf (sheetImage s)) (image-fits (eqb-true (sheetNumber s) 0 q)) (sheetImage s)
       by false q = refl
 
-  intake-same : (room : ℕ) → intakeNumber s room ≡ former.intakeNumber v s room
+  pub intake-same : (room : ℕ) → intakeNumber s room ≡ former.intakeNumber v s room
   unfolding intakeNumber former.intakeNumber
   intake-same room = rw (design-same, sheet-image)
 
@@ -195,27 +213,30 @@ module _ (v : Version) (s : List ℕ) (fit : FitsSheet v s) where
   abbrev number : ℕ
   number = intakeNumber s (length (intakeImage s))
 
-  passes : number ≡ 0 → sheetNumber s ≡ 0
+  pub passes : number ≡ 0 → sheetNumber s ≡ 0
   unfolding intakeNumber designNumber
   passes h = none (sheetNumber s) (ownTables (intakeImage s)) (none (designNumber s) (bufferNumber (length (intakeImage s)) (length (intakeImage s))) h .0) .0
 
-  label-same : (state target : List ℕ) → labelText s state target ≡ former.labelText v s state target
+  label-same : v .distance ≡ true → (state target : List ℕ) → labelText s state target ≡ former.labelText v s state target
   unfolding labelText former.labelText
-  label-same state target = rw (← sheet-image, ← intake-same (length (intakeImage s))) (by (eqb number 0) refl)
+  label-same d state target = rw (← sheet-image, ← intake-same (length (intakeImage s))) (by (eqb number 0) refl)
     where
       by : (b : Bool) → eqb number 0 ≡ b
           → cond b (imageText (intakeImage s) state target) (refusal number) ≡ cond b (former.imageText v (intakeImage s) state target) (refusal number)
-      by true q = text-same v (intakeImage s) state target (image-fits (passes (eqb-true number 0 q)))
+      by true q = text-same v (intakeImage s) state target (image-fits (passes (eqb-true number 0 q))) d
       by false q = refl
 
-  -- ---- the law
-  pub same-sheet : (state target : List ℕ) (room : ℕ) → SameSheet v s state target room
+  pub page-text-same : pageText s ≡ former.pageText v s
   unfolding pageText former.pageText
-  same-sheet state target room = record {
+  page-text-same = rw (page-number-same, count-same, sheet-page)
+
+  -- ---- the law, of a version with request 8
+  pub same-sheet : v .distance ≡ true → (state target : List ℕ) (room : ℕ) → SameSheet v s state target room
+  same-sheet d state target room = record {
     number = intake-same room;
     image = sheet-image;
     page-number = page-number-same room;
     page = sheet-page;
-    printed-page = rw (page-number-same, count-same, sheet-page);
-    label = label-same state target;
+    printed-page = page-text-same;
+    label = label-same d state target;
   }

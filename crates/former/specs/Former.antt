@@ -1,5 +1,5 @@
 -- The definitions of today, from image to label, over a version: each has the name and the text that it has today, and a request that the
--- version may lack shows as a case. All else is cited. That with all three requests they are today's is a law (`restated`). Definitions only.
+-- version may lack shows as a case. All else is cited. That with all four requests they are today's is a law (`restated`). Definitions only.
 use Prim.Native.Nat.{ℕ, _+_, _-_, _*_, _/_, _%_, _^_}
 use mathlib.Core.Bool.{Bool, cond, _&&_, _||_}
 use mathlib.Core.List.{List, [], _∷_, _++_, map}
@@ -8,7 +8,8 @@ use lib.IntN.{ℤ, pos, natAbs, _+ℤ_, _-ℤ_, _*ℤ_}
 use lib.Signed.{leZ}
 use lib.Ieee.{Float}
 use lib.ListN.{drop, length}
-use Rattle.word.specs.Word.{natAt, wordAt, wordsAt, wordsOut}
+use Rattle.word.specs.Word.{natAt, wordAt, patternAt, wordsAt, wordsOut, patternBytes}
+use Rattle.hex.specs.Hex.{hexDigits}
 use Rattle.word.specs.Buffer.{joined}
 use Rattle.word.specs.Format.{top}
 use Rattle.double.specs.Double.{convert, convertedNumber, doubleValue, ruleOf}
@@ -23,12 +24,13 @@ use Rattle.gradient.specs.Demand.{every2, startWithin}
 use Rattle.image.specs.declared.Sizes.{Sizes}
 use Rattle.image.specs.declared.Input.{Input}
 use Rattle.image.specs.declared.Input.the-variants.{State, Target}
-use Rattle.image.specs.Order.{check, firstFault, orElse}
+use Rattle.image.specs.Order.{check, firstFault, orElse, bufferNumber}
 use Rattle.image.specs.Sizes.{commandCount, inputCount, sound}
 use Rattle.image.specs.Layout.{sizesOf, gainPlace, lowerPlace, entryAt}
 use Rattle.image.specs.Checks.{wordTest}
-use Rattle.interface.specs.Tables.{symmetryTest, marginTest, totalTest, leastMargin, largestTotal}
-use Rattle.interface.specs.Calls.{valuesOf, startOf, coldCallNumber}
+use Rattle.optimum.specs.Optimum.{optimumBound}
+use Rattle.interface.specs.Tables.{symmetryTest, marginTest, totalTest, leastMargin, marginOf, largestTotal}
+use Rattle.interface.specs.Calls.{valuesOf, startOf}
 use Rattle.line.specs.Line.{lineAt, lineNumber}
 use Rattle.line.specs.declared.Line.{Line}
 use Rattle.line.specs.declared.Line.the-variants.{Frame, Malformed, End}
@@ -40,11 +42,10 @@ use Rattle.frame.specs.declared.Value.the-variants.{Double, Fault}
 use Rattle.frame.specs.Frame.{Table, table, limitTable, countIn, dueIn, frameSizes, isTableEntry, isInputLimit, notBelowZero, convertedWord, valueOf, valueDouble}
 use Rattle.lines.specs.Lines.{sizeWords}
 use Rattle.sheet.specs.Sheet.{first}
-use Rattle.intake.specs.Intake.{bufferNumber}
 use Rattle.page_line.specs.declared.Effect.{Effect}
 use Rattle.page_line.specs.Effect.{effectOf, lineText}
 use Rattle.word_file.specs.WordFile.{isWordFile, fileWords}
-use Rattle.text.specs.Text.{lines, printed}
+use Rattle.text.specs.Text.{line, printed}
 use Rattle.label_files.specs.Files.{targetForm}
 use Rattle.former.specs.Version.{Version}
 
@@ -195,7 +196,7 @@ module _ (v : Version) where
   inputsOf z state target = valuesOf State z state ++ ofTargets (valuesOf Target z target)
 
   unfoldable pub coldNumber : List ℕ → ℕ → ℕ
-  coldNumber image room = orElse (imageNumber image) (coldCallNumber (sizesOf image) room)
+  coldNumber image room = orElse (imageNumber image) (bufferNumber (4 * commandCount (sizesOf image)) room)
 
   unfoldable pub coldAnswer : List ℕ → List ℕ
   coldAnswer image = wordsOut (coldStart (problemOf image))
@@ -206,8 +207,8 @@ module _ (v : Version) where
   abbrev pub inputPasses : Input → Sizes → List ℕ → List ℕ → Bool
   inputPasses i z image values = eqb (length values) (4 * inputCount i z) && valuesWithin i z image values
 
-  unfoldable pub callNumber : List ℕ → List ℕ → List ℕ → List ℕ → ℕ → ℕ
-  callNumber image state target start room =
+  unfoldable pub callNumber : List ℕ → List ℕ → List ℕ → List ℕ → ℕ
+  callNumber image state target start =
       let z = sizesOf image in
       let p = problemOf image in
       firstFault
@@ -215,11 +216,17 @@ module _ (v : Version) where
       ∷ ofTargets (check 16 (inputPasses Target z image target) ∷ [])
       ++ check 14 (eqb (length start) (4 * commandCount z))
       ∷ check 14 (startWithin p (startOf z start))
-      ∷ check 15 (eqb room (8 * commandCount z))
       ∷ [])
 
+  unfoldable pub solvableNumber : List ℕ → List ℕ → List ℕ → List ℕ → ℕ
+  solvableNumber image state target start = orElse (imageNumber image) (callNumber image state target start)
+
+  -- without request 8 "8n bytes"
+  abbrev pub answerLength : Sizes → ℕ
+  answerLength z = 8 * commandCount z + cond (v .distance) 8 0
+
   unfoldable pub solveNumber : List ℕ → List ℕ → List ℕ → List ℕ → ℕ → ℕ
-  solveNumber image state target start room = orElse (imageNumber image) (callNumber image state target start room)
+  solveNumber image state target start room = orElse (solvableNumber image state target start) (bufferNumber (answerLength (sizesOf image)) room)
 
   unfoldable pub commandsAfter : List ℕ → List ℕ → List ℕ → List ℕ → ℕ → List ℤ
   commandsAfter image state target start k = iterate (problemOf image) (inputsOf (sizesOf image) state target) (startOf (sizesOf image) start) k .z
@@ -227,8 +234,16 @@ module _ (v : Version) where
   unfoldable pub boundsAfter : List ℕ → ℕ → List ℕ
   boundsAfter image k = errorAfter (problemOf image) k .e
 
+  unfoldable pub distanceAfter : List ℕ → List ℕ → List ℕ → List ℕ → ℕ → ℕ
+  distanceAfter image state target start k =
+      optimumBound (problemOf image) (marginOf image) (inputsOf (sizesOf image) state target) (commandsAfter image state target start k)
+
+  abbrev pub commandsAndBounds : List ℕ → List ℕ → List ℕ → List ℕ → ℕ → List ℕ
+  commandsAndBounds image state target start k = wordsOut (commandsAfter image state target start k) ++ wordsOut (map pos (boundsAfter image k))
+
   abbrev pub answerAfter : List ℕ → List ℕ → List ℕ → List ℕ → ℕ → List ℕ
-  answerAfter image state target start k = wordsOut (commandsAfter image state target start k) ++ wordsOut (map pos (boundsAfter image k))
+  answerAfter image state target start k =
+      commandsAndBounds image state target start k ++ cond (v .distance) (patternBytes (distanceAfter image state target start k)) []
 
   unfoldable pub solveAnswer : List ℕ → List ℕ → List ℕ → List ℕ → List ℕ
   solveAnswer image state target start = answerAfter image state target start (sizesOf image .sweeps)
@@ -362,6 +377,13 @@ module _ (v : Version) where
   unfoldable pub pageText : List ℕ → List ℕ
   pageText drive = printed (pageNumber drive (44 * designCount drive)) (sheetPage drive)
 
+  -- ---- text: a label's lines; without request 8 "command, space, bound, 8 digits each"
+  unfoldable pub lineOf : ℕ → ℕ → ℕ → List ℕ
+  lineOf command bound D = cond (v .distance) (line command bound D) (hexDigits 8 command ++ 32 ∷ [] ++ hexDigits 8 bound ++ 10 ∷ [])
+
+  unfoldable pub lines : ℕ → List ℕ → ℕ → List ℕ
+  lines n answer k = joined (λ (i : ℕ). lineOf (natAt answer (4 * i)) (natAt answer (4 * (n + i))) (patternAt answer (8 * n))) k
+
   -- ---- label_files, label_text: what the label program prints
   unfoldable pub formNumber : Sizes → List ℕ → List ℕ → List ℕ → ℕ
   formNumber z image state target =
@@ -373,7 +395,7 @@ module _ (v : Version) where
   unfoldable pub filesNumber : List ℕ → List ℕ → List ℕ → ℕ
   filesNumber image state target =
       let z = sizesOf image in
-      orElse (formNumber z image state target) (solveNumber image (fileWords (z .nx) state) (fileWords (z .nr) target) (coldAnswer image) (8 * commandCount z))
+      orElse (formNumber z image state target) (solveNumber image (fileWords (z .nx) state) (fileWords (z .nr) target) (coldAnswer image) (answerLength z))
 
   unfoldable pub imageText : List ℕ → List ℕ → List ℕ → List ℕ
   imageText image state target =

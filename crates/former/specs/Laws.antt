@@ -1,24 +1,29 @@
 -- What document 02 says of what was before, as statements: the definitions of today against those of today but for that request. Definitions
 -- only.
-use Prim.Native.Nat.{ℕ, _/_, _%_, _<_}
+use Prim.Native.Nat.{ℕ, _+_, _*_, _/_, _%_, _<_}
 use mathlib.Core.Path.{_≡_}
 use mathlib.Core.Bool.{false, cond}
-use mathlib.Core.List.{List}
+use mathlib.Core.List.{List, _++_}
 use lib.Dec.{leb}
 use lib.Ieee.{Float}
-use lib.ListN.{length}
+use lib.ListN.{length, take, drop}
+use Rattle.word.specs.Word.{patternAt, patternBytes}
 use Rattle.hex.specs.Hex.{hexAt}
 use Rattle.image.specs.declared.Sizes.{Sizes}
-use Rattle.interface.specs.Calls.{coldNumber, coldAnswer, solveNumber, solveAnswer}
+use Rattle.image.specs.Order.{orElse}
+use Rattle.image.specs.Sizes.{commandCount}
+use Rattle.image.specs.Layout.{sizesOf}
+use Rattle.interface.specs.Calls.{coldNumber, coldAnswer, solveNumber, distanceAfter, solveAnswer}
 use Rattle.line.specs.declared.Line.{Line}
 use Rattle.line.specs.declared.Line.the-variants.{Frame, Malformed, End}
 use Rattle.frame.specs.Frame.{due, dueAt, isTableEntry, wordOf}
 use Rattle.intake.specs.Intake.{intakeNumber, intakeImage}
 use Rattle.design_page.specs.Page.{pageNumber, sheetPage}
-use Rattle.text.specs.Text.{refusal}
-use Rattle.label_text.specs.Label.{labelText}
+use Rattle.word_file.specs.WordFile.{fileWords}
+use Rattle.text.specs.Text.{distanceDigits, refusal}
+use Rattle.label_text.specs.Label.{filesNumber, labelText}
 use Rattle.page_text.specs.Text.{pageText}
-use Rattle.former.specs.Version.{Version, beforeTargets, beforeHorizon, beforeNearest}
+use Rattle.former.specs.Version.{Version, beforeTargets, beforeHorizon, beforeNearest, beforeDistance}
 use Rattle.former.specs.Former as former
 
 -- ---- the same as by a version
@@ -90,3 +95,31 @@ pub record FirstDifference (z : Sizes) (i : ℕ) : Type 0 where
 -- by every kind but those of the tables a number has the word that it had, or none as before
 abbrev pub OthersKept : Sizes → ℕ → Float → Type 0
 OthersKept z kind x = isTableEntry kind ≡ false → wordOf z kind x ≡ former.wordOf beforeNearest z kind x
+
+-- ---- request 8: "The answer buffer grows by one unsigned 64-bit word", "eight more digits after a space on each line"
+-- a solve has the number that it had, in a buffer of eight bytes more, and D follows the answer that it was
+pub record Grown (image state target start : List ℕ) (room : ℕ) : Type 0 where
+  pub number : solveNumber image state target start (room + 8) ≡ former.solveNumber beforeDistance image state target start room
+  pub answer : solveAnswer image state target start ≡ former.solveAnswer beforeDistance image state target start ++ patternBytes (distanceAfter image state target start (sizesOf image .sweeps))
+
+-- the number of a label, and the solve's answer that it prints
+abbrev pub labelNumber : List ℕ → List ℕ → List ℕ → ℕ
+labelNumber sheet state target = orElse (intakeNumber sheet (length (intakeImage sheet))) (filesNumber (intakeImage sheet) state target)
+
+abbrev pub labelAnswer : List ℕ → List ℕ → List ℕ → List ℕ
+labelAnswer sheet state target =
+    let image = intakeImage sheet in
+    solveAnswer image (fileWords (sizesOf image .nx) state) (fileWords (sizesOf image .nr) target) (coldAnswer image)
+
+-- how long each of its lines is: 17 characters, a space, D, byte 10
+abbrev pub labelLine : List ℕ → List ℕ → List ℕ → ℕ
+labelLine sheet state target = 19 + distanceDigits (patternAt (labelAnswer sheet state target) (8 * commandCount (sizesOf (intakeImage sheet))))
+
+-- all but the label of a sheet is as it was; a refusal too; and each line of a label begins with the 17 characters that the line had
+pub record Lengthened (sheet state target : List ℕ) (room : ℕ) : Type 0 where
+  pub number : intakeNumber sheet room ≡ former.intakeNumber beforeDistance sheet room
+  pub image : intakeImage sheet ≡ former.intakeImage beforeDistance sheet
+  pub printed-page : pageText sheet ≡ former.pageText beforeDistance sheet
+  pub refused : (labelNumber sheet state target ≡ 0 → ⊥) → labelText sheet state target ≡ former.labelText beforeDistance sheet state target
+  pub begins : labelNumber sheet state target ≡ 0 → (i : ℕ) → i < commandCount (sizesOf (intakeImage sheet))
+      → take 17 (drop (labelLine sheet state target * i) (labelText sheet state target)) ≡ take 17 (drop (18 * i) (former.labelText beforeDistance sheet state target))
