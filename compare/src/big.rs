@@ -1,4 +1,4 @@
-//! A signed whole number of any size, with just what the exact scheme needs.
+//! A signed whole number of any size, with just what the exact scheme and the optimum need.
 
 /// Two's complement, least significant limb first. Never empty, and without a limb that only repeats the sign.
 #[derive(Clone, Debug, PartialEq, Eq)]
@@ -7,6 +7,12 @@ pub struct Big(Vec<u64>);
 impl Big {
     pub fn new(value: i64) -> Big {
         Big(vec![value as u64])
+    }
+
+    pub fn wide(value: i128) -> Big {
+        let mut wide = Big(vec![value as u64, (value >> 64) as u64]);
+        wide.trim();
+        wide
     }
 
     pub fn is_negative(&self) -> bool {

@@ -1,7 +1,8 @@
 //! Document 01's cases at the edges as one table, the starred ones among them, and a few of our own behind them: edges
-//! that it implies, and those of requests 1 to 7. The figures of ours are worked out by hand from the papers. Solves that
+//! that it implies, and those of requests 1 to 8. The figures of ours are worked out by hand from the papers. Solves that
 //! come to rest are a table of their own.
 
+mod distance;
 mod nearest;
 mod rest;
 mod stop;
@@ -19,7 +20,8 @@ use crate::image::{
 };
 use crate::page::{self, PAGE_LINE};
 use crate::process::{Folder, Table};
-use crate::sheet::LINE;
+use crate::sheet::{LINE, hex};
+use crate::solve::answer_len;
 
 /// S, as document 01 prints it.
 pub const SAMPLE: &str = "\
@@ -49,7 +51,7 @@ const PRINTED: &str = "05 0000 3FA0000000000000 0000000000000000 M";
 enum Expect {
     Refused(Number),
     Accepted,
-    /// Commands, then bounds.
+    /// Commands, then bounds; D is apart.
     Answer(Vec<i64>),
     /// The first words of a section of the sheet's image.
     Words(u8, Vec<i64>),
@@ -72,9 +74,11 @@ pub struct Case {
     target: Vec<u8>,
     /// The cold start, all zeros, where absent.
     start: Option<Vec<u8>>,
-    /// The bytes that the answer's buffer has too many.
-    spare: usize,
+    /// The bytes that the answer's buffer has too many, or too few.
+    spare: isize,
     expect: Expect,
+    /// D of the answer, where it is worked out.
+    distance: Option<u64>,
 }
 
 impl Case {
@@ -90,8 +94,16 @@ impl Case {
         Case { start: Some(bytes(start)), ..self }
     }
 
-    fn spare(self, spare: usize) -> Case {
+    fn spare(self, spare: isize) -> Case {
         Case { spare, ..self }
+    }
+
+    pub fn has_image(&self) -> bool {
+        self.image.is_some()
+    }
+
+    fn distance(self, distance: u64) -> Case {
+        Case { distance: Some(distance), ..self }
     }
 }
 
@@ -104,7 +116,7 @@ fn case(name: &str, draft: &Draft, state: &[i64], expect: Expect) -> Case {
 fn sheet_case(name: &str, draft: &Draft, sheet: Vec<u8>, expect: Expect) -> Case {
     let (name, image_len) = (name.to_string(), draft.image().len());
     let (state, target) = (bytes(&[10]), vec![0; 4 * draft.sizes.targets]);
-    Case { name, sheet, image_len, image: None, state, target, start: None, spare: 0, expect }
+    Case { name, sheet, image_len, image: None, state, target, start: None, spare: 0, expect, distance: None }
 }
 
 /// One case for each count of sweeps from 1; each row has the commands, then the bounds.
@@ -114,6 +126,12 @@ fn runs(name: &str, draft: &Draft, state: &[i64], rows: &[&[i64]]) -> Vec<Case> 
         case(&name, &draft.clone().iterations(i + 1), state, Answer(row.to_vec()))
     };
     rows.iter().enumerate().map(run).collect()
+}
+
+/// The same cases with the D of each.
+fn with_distances(cases: Vec<Case>, distances: &[u64]) -> Vec<Case> {
+    assert_eq!(cases.len(), distances.len());
+    cases.into_iter().zip(distances).map(|(case, &distance)| case.distance(distance)).collect()
 }
 
 /// The same, each with this target.
@@ -174,6 +192,7 @@ pub fn table() -> Vec<Case> {
     table.extend(sums::table());
     table.extend(stop::table());
     table.extend(nearest::table());
+    table.extend(distance::table());
     table.extend(pages_of_s());
     table.extend(other_pages());
     table.extend(no_pages());
@@ -184,12 +203,15 @@ fn of_document_01() -> Vec<Case> {
     let s = sample;
     let mut table = Vec::new();
     let rows: [&[i64]; 5] = [&[-10, 1], &[-15, 2], &[-18, 3], &[-19, 3], &[-20, 3]];
-    table.extend(runs("* S", &s(), &[10], &rows));
+    // D is the distance from −20, since the one command has R = |8 z + 160| and m = 8.
+    table.extend(with_distances(runs("* S", &s(), &[10], &rows), &[10, 5, 2, 1, 0]));
     let rows: [&[i64]; 4] = [&[-10, 1], &[-18, 3], &[-20, 4], &[-20, 6]];
-    table.extend(runs("* S with β 8", &s().with(MOMENTUM, &[8]), &[10], &rows));
+    let fast = runs("* S with β 8", &s().with(MOMENTUM, &[8]), &[10], &rows);
+    table.extend(with_distances(fast, &[10, 2, 0, 0]));
     let narrow = s().with(LOW, &[-1]).with(HIGH, &[1]);
     let rows: [&[i64]; 3] = [&[-1, 1], &[-1, 2], &[-1, 2]];
-    table.extend(runs("* S with limits -1 and 1", &narrow, &[10], &rows));
+    // 8 − 160 leads beyond the limit, where z is.
+    table.extend(with_distances(runs("* S with limits -1 and 1", &narrow, &[10], &rows), &[0, 0, 0]));
     let half = 0.03125;
     table.extend([
         case("* state limit 117", &s().with(STATE_LIMIT, &[117]), &[10], Accepted),
@@ -204,11 +226,11 @@ fn of_document_01() -> Vec<Case> {
         with_doubles("* high limit 0.03125", &s(), &[(HIGH, half)], Words(HIGH, vec![0])),
         with_doubles("both limits 0.03125", &s(), &[(LOW, half), (HIGH, half)], Refused(7)),
         with_doubles("* -0.03125 in Φ", &s(), &[(GAIN, -half)], Words(GAIN, vec![0])),
-        case("* state 10", &s(), &[10], Answer(vec![-18, 3])),
+        case("* state 10", &s(), &[10], Answer(vec![-18, 3])).distance(2),
         case("state 11", &s(), &[11], Refused(13)),
         case("sweeps 0", &s().iterations(0), &[10], Refused(3)),
         case("sweeps 401", &s().iterations(401), &[10], Refused(3)),
-        case("sweeps 400", &s().iterations(400), &[10], Answer(vec![-20, 3])),
+        case("sweeps 400", &s().iterations(400), &[10], Answer(vec![-20, 3])).distance(0),
     ]);
     table
 }
@@ -218,14 +240,15 @@ fn our_own() -> Vec<Case> {
     // t passes the low limit while the optimum is inside: a momentum taken from the unheld t comes back too late.
     let overshoot = sample().with(MOMENTUM, &[15]);
     let rows: [&[i64]; 5] = [&[-9, 1], &[-18, 3], &[-20, 5], &[-20, 8], &[-19, 12]];
-    let mut table = runs("S with β 15, state 9", &overshoot, &[9], &rows);
+    // The optimum is −18.
+    let mut table = with_distances(runs("S with β 15, state 9", &overshoot, &[9], &rows), &[9, 0, 2, 2, 1]);
     let stiff = sample().with(LOW, &[100]).with(HIGH, &[100]).with(MOMENTUM, &[8]);
     let two_steps = two_steps(17, 8);
     let even = Draft { sizes: Sizes { bits: 5, ..two_steps.sizes }, ..two_steps };
     let wide = Draft { sizes: Sizes { width: 32, iterations: 400, ..sample().sizes }, ..sample() };
     let wide = wide.with(COST, &[1]).with(MOMENTUM, &[4]).with(LOW, &[-1 << 30]).with(HIGH, &[1 << 30]);
     table.extend([
-        case("a bound of 2^31", &wide, &[0], Answer(vec![0, 1 << 31])),
+        case("a bound of 2^31", &wide, &[0], Answer(vec![0, 1 << 31])).distance(0),
         // 12 until request 6. With zero within the limits Y is not below P.
         case("P alone above top", &stiff, &[10], Refused(17)),
         case("11 met with equality", &even.clone().with(MOMENTUM, &[8]), &[10], Accepted),
@@ -267,24 +290,29 @@ fn followed_targets() -> Vec<Case> {
     // (160 − 8 × 7) / 16 = 6.5, so h = 6: −3 − 6, then −4.5 is −5, −5 − 6, then −5.5 is −6, −6 − 6. Exactly −6.5,
     // −9.75, −11.375.
     let rows: [&[i64]; 5] = [&[-6, 1], &[-9, 2], &[-11, 3], &[-12, 3], &[-12, 3]];
-    let mut table = runs_to("S with a target", &one(), &[10], &[7], &rows);
+    // The optimum is −104 / 8 = −13.
+    let mut table = with_distances(runs_to("S with a target", &one(), &[10], &[7], &rows), &[7, 4, 2, 1, 1]);
     // h = 6. y: 24 × −6 / 16 = −9; −16.5 is −17, less −3: −14; −19.5 is −20, less −5.5, which is −6: −14.
     // z: −4.5 is −5, −5 − 6; −7 − 6; −7 − 6. q: 1 + 1 + 1 = 3 (0.5), 3 + 2 + 1 = 6, 4 + 4 + 1 = 9 (3.5); e: half of q,
     // rounded up, plus 1, as in S with β 8.
     let rows: [&[i64]; 4] = [&[-6, 1], &[-11, 3], &[-13, 4], &[-13, 6]];
-    table.extend(runs_to("S with a target, β 8", &one().with(MOMENTUM, &[8]), &[10], &[7], &rows));
+    let fast = runs_to("S with a target, β 8", &one().with(MOMENTUM, &[8]), &[10], &[7], &rows);
+    table.extend(with_distances(fast, &[7, 2, 0, 0]));
     // 160 + 80 + 32 − 24 + 8 = 256, so h = 16, be −24 / 16 and 8 / 16 what they may: −8 − 16 is held.
     let four = with_targets(&[16, 8, -8, 4], &[5, 4, 3, 2]);
     let rows: [&[i64]; 3] = [&[-16, 1], &[-20, 2], &[-20, 3]];
-    table.extend(runs_to("four targets", &four, &[10], &[5, 4, 3, 2], &rows));
+    // 128 − 256 leads from −16 beyond −20: R is 16 × 4.
+    table.extend(with_distances(runs_to("four targets", &four, &[10], &[5, 4, 3, 2], &rows), &[8, 0, 0]));
     // h = (1 + 4, −1 + 1); by columns it would be (1 − 2, 2 + 1). −2.5 is −3, −3 − 5; −4 − 5.
     let rows: [&[i64]; 3] = [&[-5, 0, 1, 1], &[-8, 0, 2, 2], &[-9, 0, 3, 3]];
-    table.extend(runs_to("two steps, two targets", &two_targets(), &[0], &[1, 2], &rows));
+    // The optimum is (−10, 0).
+    table.extend(with_distances(runs_to("two steps, two targets", &two_targets(), &[0], &[1, 2], &rows), &[5, 2, 1]));
     // h = (1, 0, 0): −0.5 is −1, −1 − 1.
     let rows: [&[i64]; 2] = [&[-1, 0, 0, 1, 1, 1], &[-2, 0, 0, 2, 2, 2]];
-    table.extend(runs_to("three steps, one target", &with_targets(&[16, 0, 0], &[1]), &[0], &[1], &rows));
+    let three = runs_to("three steps, one target", &with_targets(&[16, 0, 0], &[1]), &[0], &[1], &rows);
+    table.extend(with_distances(three, &[1, 0]));
     // (160 + 8 × 7) / 16 = 13.5, so h = 13: −13, −6.5 is −7, −7 − 13 = −20, then held.
-    table.push(case("target -7", &one(), &[10], Answer(vec![-20, 3])).target(&[-7]));
+    table.push(case("target -7", &one(), &[10], Answer(vec![-20, 3])).target(&[-7]).distance(0));
     table
 }
 
@@ -387,9 +415,11 @@ pub fn coupled(limits: [(i64, i64); 2]) -> Draft {
 fn held_by_steps() -> Vec<Case> {
     // −10; −5 − 10; −7.5 is −8, −8 − 10. At step 1 −10, −2.5 is −3, −3 − 10, and the same again, all held.
     let rows: [&[i64]; 3] = [&[-10, -5, 1, 1], &[-15, -5, 2, 2], &[-18, -5, 3, 3]];
-    let mut table = runs("the second step eases off", &with_steps(1, &[(-20, 20), (-5, 5)]), &[10], &rows);
+    let eased = runs("the second step eases off", &with_steps(1, &[(-20, 20), (-5, 5)]), &[10], &rows);
+    let mut table = with_distances(eased, &[10, 5, 2]);
     let rows: [&[i64]; 3] = [&[-5, -10, 1, 1], &[-5, -15, 2, 2], &[-5, -18, 3, 3]];
-    table.extend(runs("the first step is held", &with_steps(1, &[(-5, 5), (-20, 20)]), &[10], &rows));
+    let held = runs("the first step is held", &with_steps(1, &[(-5, 5), (-20, 20)]), &[10], &rows);
+    table.extend(with_distances(held, &[10, 5, 2]));
     // w is 1 at step 1.
     let rows: [&[i64]; 3] = [&[-10, -1, 1, 1], &[-15, -1, 2, 1], &[-18, -1, 3, 1]];
     table.extend(runs("w holds the second step", &with_steps(1, &[(-20, 20), (-1, 0)]), &[10], &rows));
@@ -425,7 +455,7 @@ fn held_by_steps() -> Vec<Case> {
 fn motors_by_steps() -> Vec<Case> {
     let rows: [&[i64]; 3] =
         [&[-10, -4, -2, -10, 1, 1, 1, 1], &[-15, -4, -2, -15, 2, 2, 2, 2], &[-18, -4, -2, -18, 3, 3, 3, 3]];
-    let mut table = runs("two motors, two steps", &motors_and_steps(), &[10], &rows);
+    let mut table = with_distances(runs("two motors, two steps", &motors_and_steps(), &[10], &rows), &[10, 5, 2]);
     // Beside the held ones z and e are those of S with β 8, whose fifth e is 7: q = 6 + 5 + 1 = 12. w is 40, 6, 5, 21.
     let rows: [&[i64]; 5] = [
         &[-10, -4, -2, -10, 1, 1, 1, 1],
@@ -436,7 +466,8 @@ fn motors_by_steps() -> Vec<Case> {
     ];
     table.extend(runs("two motors, two steps, β 8", &motors_and_steps().with(MOMENTUM, &[8]), &[10], &rows));
     let rows: [&[i64]; 3] = [&[10, 2, 3, 1, 1, 1, 1, 1], &[15, 2, 3, 1, 2, 2, 2, 2], &[17, 2, 3, 1, 3, 3, 3, 3]];
-    table.extend(runs("two motors, two steps, upward", &motors_and_steps(), &[-10], &rows));
+    let upward = runs("two motors, two steps, upward", &motors_and_steps(), &[-10], &rows);
+    table.extend(with_distances(upward, &[10, 5, 3]));
     // Limits are those of the command, whichever motor and step it belongs to.
     let answer = || Answer(rows[2].to_vec());
     table.push(case("four steps of one motor", &with_steps(1, &FOUR), &[-10], answer()));
@@ -451,12 +482,16 @@ fn coupled_steps() -> Vec<Case> {
     // y = (−30 + 9, −3 + 1), 9 for 8.5: the same. q: 1 + 1 + 1 (0.5), 4 + 3 + 1 (2.5), 7 + 6 + 1 (5.5).
     // e: 12 × 3 / 16 = 2.25 is 3, 3 + 1; 12 × 8 / 16 + 1; 12 × 14 / 16 = 10.5 is 11, 11 + 1, and at step 1 w = 7.
     let rows: [&[i64]; 4] = [&[-10, -2, 1, 1], &[-17, -2, 4, 4], &[-20, -2, 7, 7], &[-20, -2, 12, 7]];
-    let mut table = runs("coupled steps", &coupled([(-20, 20), (-2, 5)]), &[10], &rows);
+    // At step 0 −(8 z + 4 × −2) − 160 is −72, −16 and 8; step 1 stays at its low. m = 4.
+    let both = runs("coupled steps", &coupled([(-20, 20), (-2, 5)]), &[10], &rows);
+    let mut table = with_distances(both, &[18, 4, 2, 2]);
     // h = 10. y = (−15, 0): −7.5 is −8, −8 − 10; 60 / 16 = 3.75, 3 − 10, held, as all that follow at step 1.
     // y = (−27 + 5, 0): −11 − 10, held. y = (−30 + 9, 0): −10.5 is −11, −11 − 10, held. w is 5 at step 1.
     // q: 3, 3; 8, 8; 14 and 5 + 5 + 1 (4.5). e: 4; 7, and at step 1 w; (112 + 44) / 16 = 9.75 is 10, 10 + 1, and w.
     let rows: [&[i64]; 4] = [&[-10, 0, 1, 1], &[-18, 0, 4, 4], &[-20, 0, 7, 5], &[-20, 0, 11, 5]];
-    table.extend(runs("zero at the second step's low", &coupled([(-20, 20), (0, 5)]), &[10], &rows));
+    // −8 z − 160 is −80, −16 and 0.
+    let second = runs("zero at the second step's low", &coupled([(-20, 20), (0, 5)]), &[10], &rows);
+    table.extend(with_distances(second, &[20, 4, 0, 0]));
     let rows: [&[i64]; 4] = [&[0, -10, 1, 1], &[0, -18, 4, 4], &[0, -20, 5, 7], &[0, -20, 5, 11]];
     table.extend(runs("zero at the first step's low", &coupled([(0, 5), (-20, 20)]), &[10], &rows));
     // h = −10. y = (15, 0): 7 + 10, 7 for 7.5; −3.75 is −4, −4 + 10, held. y = (25 − 5, 0), 25 for 25.5: 10 + 10.
@@ -618,6 +653,7 @@ fn page_case(name: &str, first_line: &str, page: &str) -> Case {
         start: None,
         spare: 0,
         expect: Page(page.to_string()),
+        distance: None,
     }
 }
 
@@ -928,15 +964,15 @@ pub fn label_table() -> Table {
     let motors_and_steps = String::from_utf8(motors_and_steps_text()).unwrap();
     let former = String::from_utf8(other_limit_lines(&[0, 1, 4, 5], &[])).unwrap();
     let (halves, beyond_64_bits) = (sheet(sums::two_halves_of_b()), sheet(sums::sixteen_at_top()));
-    let (answer_of_s, refused) = ("FFFFFFEE 00000003\n", "refused 16\n");
+    let (answer_of_s, refused) = ("FFFFFFEE 00000003 00000002\n", "refused 16\n");
     let table = [
         (s(None), answer_of_s),
         (s(Some("")), answer_of_s),
         (s(Some("00000007\n")), answer_of_s),
         (s(Some("junk\0")), answer_of_s),
         // The cases "S with a target, sweeps 3" and "target -7".
-        (of("00000007\n"), "FFFFFFF5 00000003\n"),
-        (of("FFFFFFF9\n"), "FFFFFFEC 00000003\n"),
+        (of("00000007\n"), "FFFFFFF5 00000003 00000002\n"),
+        (of("FFFFFFF9\n"), "FFFFFFEC 00000003 00000000\n"),
         (of("00000008\n"), refused),
         (of("fffffff9\n"), refused),
         (of("00000007"), refused),
@@ -958,7 +994,8 @@ pub fn label_table() -> Table {
         // The case "two motors, two steps, sweeps 3".
         (
             folder(&motors_and_steps, "0000000A\n", None),
-            "FFFFFFEE 00000003\nFFFFFFFC 00000003\nFFFFFFFE 00000003\nFFFFFFEE 00000003\n",
+            "FFFFFFEE 00000003 00000002\nFFFFFFFC 00000003 00000002\n\
+             FFFFFFFE 00000003 00000002\nFFFFFFEE 00000003 00000002\n",
         ),
         (folder(&former, "0000000A\n", None), "refused 02\n"),
         (folder(&former, "", None), "refused 02\n"),
@@ -967,7 +1004,19 @@ pub fn label_table() -> Table {
         (folder(&beyond_64_bits, "", None), "refused 12\n"),
     ];
     let table = table.map(|(folder, text)| (folder, text.to_string())).into_iter();
-    table.chain(stop::folders()).chain(nearest::folders()).collect()
+    table.chain(stop::folders()).chain(nearest::folders()).chain(distance::folders()).collect()
+}
+
+/// The folder of a case that is solved from zeros, and the lines of its answer, whose D takes eight digits.
+fn label(case: &Case) -> (Folder, String) {
+    let (Answer(row), Some(distance)) = (&case.expect, case.distance) else {
+        panic!("{}: the whole answer is worked out", case.name)
+    };
+    let words = |words: &[u8]| Some(format!("{}\n", hex(words)).into_bytes());
+    let (commands, bounds) = row.split_at(row.len() / 2);
+    let line = |(z, e): (&i64, &i64)| format!("{:08X} {e:08X} {distance:08X}\n", *z as u32);
+    let folder = Folder { drive: Some(case.sheet.clone()), state: words(&case.state), target: words(&case.target) };
+    (folder, commands.iter().zip(bounds).map(line).collect())
 }
 
 /// Runs one case through every call it reaches, and holds the outcome to the table's own figures.
@@ -988,7 +1037,7 @@ pub fn run(harness: &mut Harness, case: &Case) {
         Refused(number @ (6 | 13..=16)) => (intake.number, solve_number) == (0, *number),
         Refused(number) => (intake.number, solve_number) == (*number, *number),
         Accepted => (intake.number, solve_number) == (0, 0),
-        Answer(row) => solve.is_some_and(|solve| solve.written == Some(bytes(row))),
+        Answer(row) => solve.is_some_and(|solve| is_answer(&solve.written.unwrap_or_default(), row, case.distance)),
         Words(kind, row) => {
             let image = words(&intake.written.unwrap_or_default());
             let sizes = image.get(..HEADER_WORDS).and_then(Sizes::of_words);
@@ -999,6 +1048,12 @@ pub fn run(harness: &mut Harness, case: &Case) {
         NoPage(lengths) => lengths.iter().all(|&length| page_of(harness, case, length).number == 15),
     };
     harness.check(holds && page_holds, || format!("  the table's case: {}", case.name));
+}
+
+/// Are these the bytes of commands and bounds, with D behind them?
+fn is_answer(written: &[u8], row: &[i64], distance: Option<u64>) -> bool {
+    let (row, d) = (bytes(row), written.split_last_chunk::<8>());
+    d.is_some_and(|(start, d)| start == row && distance.is_none_or(|distance| *d == distance.to_be_bytes()))
 }
 
 /// The solve alone of a case that has its image.
@@ -1017,7 +1072,8 @@ fn solve(harness: &mut Harness, image: &[u8], case: &Case) -> Outcome {
 fn lent_solve(harness: &mut Harness, image: &[u8], case: &Case, commands: usize) -> Outcome {
     let start = case.start.clone().unwrap_or(vec![0; 4 * commands]);
     let lent: [&[u8]; 4] = [image, &case.state, &case.target, &start];
-    harness.compare(&Call::on_buffers(Kind::Solve, &lent, 8 * commands + case.spare))
+    let answer_len = answer_len(commands).saturating_add_signed(case.spare);
+    harness.compare(&Call::on_buffers(Kind::Solve, &lent, answer_len))
 }
 
 /// All zeros, and 15 with a byte too many, or the image's number.

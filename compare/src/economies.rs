@@ -1,6 +1,8 @@
-//! The false economies and lazy drives of document 01, those of requests 1 to 7, and those that end a solve too early.
+//! The false economies and lazy drives of document 01, those of requests 1 to 8, and those that end a solve too early.
 //! Each must be found on the table of cases: a comparison that cannot fail is worthless.
 
+mod distance;
+mod labels;
 mod loops;
 mod nearest;
 mod rest;
@@ -17,6 +19,7 @@ use crate::image::{HEADER_WORDS, HIGH, LOW, Number, Problem, Sizes, TARGET_GAIN,
 use crate::page::{self, GIVEN, KEPT, MARK, PAGE_LINE, PLACE};
 use crate::rules::{Conversion, Other, Rules, Use};
 use crate::sheet::{self, LINE, hex, number_of};
+use crate::solve::answer_len;
 
 /// What a lazy drive makes of the reference's outcome.
 type Spoil = Box<dyn Fn(Kind, &[&[u8]], Number, &mut [u8]) -> Number>;
@@ -25,8 +28,17 @@ struct Economy {
     name: String,
     rules: Rules,
     spoil: Spoil,
-    /// Is it to be found on the solves that come to rest, and not on the other cases?
-    at_rest: bool,
+    found_on: Table,
+}
+
+/// What an economy is to be found on.
+#[derive(Clone, Copy, PartialEq, Eq)]
+enum Table {
+    Cases,
+    /// The solves alone of the cases that have an image.
+    Solves,
+    /// The solves that come to rest.
+    AtRest,
 }
 
 impl Drive for Economy {
@@ -37,7 +49,7 @@ impl Drive for Economy {
 }
 
 fn rule(name: &str, rules: Rules) -> Economy {
-    Economy { name: name.to_string(), rules, spoil: Box::new(|_, _, number, _| number), at_rest: false }
+    Economy { name: name.to_string(), rules, spoil: Box::new(|_, _, number, _| number), found_on: Table::Cases }
 }
 
 /// A drive that takes other words for the doubles of some kinds.
@@ -54,7 +66,7 @@ fn up(double: u64, sizes: &Sizes) -> Option<i64> {
 }
 
 fn lazy(name: &str, spoil: impl Fn(Kind, &[&[u8]], Number, &mut [u8]) -> Number + 'static) -> Economy {
-    Economy { name: name.to_string(), rules: Rules::default(), spoil: Box::new(spoil), at_rest: false }
+    Economy { name: name.to_string(), rules: Rules::default(), spoil: Box::new(spoil), found_on: Table::Cases }
 }
 
 /// A drive that answers on its own where a solve has one of these numbers.
@@ -111,6 +123,7 @@ fn economies() -> Vec<Economy> {
     economies.extend(loops::economies());
     economies.extend(stop::economies());
     economies.extend(nearest::economies());
+    economies.extend(distance::economies());
     economies.extend(on_pages());
     economies.extend(without_pages());
     economies.extend(rest::economies());
@@ -194,8 +207,8 @@ fn motors_outermost(command: usize, sizes: &Sizes) -> usize {
 /// Request 3's, on the limits that a command has.
 fn with_other_limits() -> Vec<Economy> {
     const EVERYWHERE: &[Use] =
-        &[Use::Crossing, Use::Stop, Use::Magnitude, Use::Spread, Use::Start, Use::Sweep, Use::Bound];
-    let places: [(&str, &'static [Use]); 9] = [
+        &[Use::Crossing, Use::Stop, Use::Magnitude, Use::Spread, Use::Start, Use::Sweep, Use::Bound, Use::Distance];
+    let places: [(&str, &'static [Use]); 10] = [
         ("in 7", &[Use::Crossing]),
         ("in 17", &[Use::Stop]),
         ("in zb", &[Use::Magnitude]),
@@ -204,6 +217,7 @@ fn with_other_limits() -> Vec<Economy> {
         ("in 14", &[Use::Start]),
         ("in the sweep", &[Use::Sweep]),
         ("in the w of a bound", &[Use::Bound]),
+        ("in the held step of D", &[Use::Distance]),
         ("everywhere", EVERYWHERE),
     ];
     let with =
@@ -494,11 +508,18 @@ fn table_by_columns(inputs: &[&[u8]], out: &mut [u8]) -> Number {
     solve([&bytes(&new), inputs[1], inputs[2], inputs[3]], out)
 }
 
+/// The commands, the bounds and D of an answer.
+fn parts(answer: &mut [u8]) -> [&mut [u8]; 3] {
+    let (words, distance) = answer.split_at_mut(answer.len() - 8);
+    let (commands, bounds) = words.split_at_mut(words.len() / 2);
+    [commands, bounds, distance]
+}
+
 /// Changes the commands of an accepted solve.
 fn commands(kind: Kind, number: Number, out: &mut [u8], change: impl FnOnce(&mut [u8])) -> Number {
     if kind == Kind::Solve && number == 0 {
-        let half = out.len() / 2;
-        change(&mut out[..half]);
+        let [commands, _, _] = parts(out);
+        change(commands);
     }
     number
 }
@@ -507,32 +528,33 @@ fn sweep_once(kind: Kind, inputs: &[&[u8]], number: Number, out: &mut [u8]) -> N
     commands(kind, number, out, |commands| {
         let mut image = inputs[0].to_vec();
         image[20..24].copy_from_slice(&bytes(&[1]));
-        let mut answer = vec![0; 2 * commands.len()];
+        let mut answer = vec![0; answer_len(commands.len() / 4)];
         solve([&image, inputs[1], inputs[2], inputs[3]], &mut answer);
         commands.copy_from_slice(&answer[..commands.len()]);
     })
 }
 
 fn width_as_bound(kind: Kind, inputs: &[&[u8]], number: Number, out: &mut [u8]) -> Number {
-    if let (Kind::Solve, Ok(problem)) = (kind, open(inputs[0], Rules::default())) {
-        let half = out.len() / 2;
-        let widths: Vec<i64> = (0..half / 4).map(|k| problem.width(Use::Bound, k)).collect();
-        if number == 0 {
-            out[half..].copy_from_slice(&bytes(&widths));
-        }
+    if let (Kind::Solve, 0, Ok(problem)) = (kind, number, open(inputs[0], Rules::default())) {
+        let [_, bounds, _] = parts(out);
+        let widths: Vec<i64> = (0..bounds.len() / 4).map(|k| problem.width(Use::Bound, k)).collect();
+        bounds.copy_from_slice(&bytes(&widths));
     }
     number
 }
 
 pub fn count() -> u64 {
-    economies().len() as u64
+    (economies().len() + labels::LABELS.len()) as u64
 }
 
 pub fn run(harness: &mut Harness, index: u64, table: &[Case], at_rest: &[Case]) {
-    let economy = &economies()[index as usize];
-    let differences = differences(economy, table, at_rest);
-    println!("a drive that {}: {differences} differences", economy.name);
-    harness.check(differences > 0, || format!("  a drive that {} is not found", economy.name));
+    let economies = economies();
+    let (name, differences) = match economies.get(index as usize) {
+        Some(economy) => (format!("a drive that {}", economy.name), differences(economy, table, at_rest)),
+        None => labels::differences(index as usize - economies.len()),
+    };
+    println!("{name}: {differences} differences");
+    harness.check(differences > 0, || format!("  {name} is not found"));
 }
 
 /// Drives that end their loops where they may are not to be found.
@@ -546,10 +568,12 @@ pub fn right_ends_agree(harness: &mut Harness) {
 
 fn differences(economy: &Economy, table: &[Case], at_rest: &[Case]) -> u64 {
     let mut scratch = Harness::quiet(economy);
-    if economy.at_rest {
-        at_rest.iter().for_each(|case| cases::run_solve(&mut scratch, case));
-    } else {
-        table.iter().for_each(|case| cases::run(&mut scratch, case));
+    match economy.found_on {
+        Table::Cases => table.iter().for_each(|case| cases::run(&mut scratch, case)),
+        Table::Solves => {
+            table.iter().filter(|case| case.has_image()).for_each(|case| cases::run_solve(&mut scratch, case))
+        }
+        Table::AtRest => at_rest.iter().for_each(|case| cases::run_solve(&mut scratch, case)),
     }
     scratch.failed
 }

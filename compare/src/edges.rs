@@ -141,7 +141,8 @@ pub fn of_problem(problem: &Problem, number: Number) -> Vec<&'static str> {
     }
 }
 
-fn met<const N: usize>(edges: [&'static str; N], holds: [bool; N]) -> Vec<&'static str> {
+/// Those of some edges that hold.
+pub fn met<const N: usize>(edges: [&'static str; N], holds: [bool; N]) -> Vec<&'static str> {
     edges.into_iter().zip(holds).filter(|(_, holds)| *holds).map(|(edge, _)| edge).collect()
 }
 

@@ -1,7 +1,7 @@
-//! The drive without one of the requests 3, 4, 6 and 7, once more and on its own: all the rest of document 01 and requests
-//! 1 to 7 as plain formulas on raw words, conversions in floating point.
+//! The drive without one of the requests 3, 4, 6, 7 and 8, once more and on its own: all the rest of document 01 and
+//! requests 1 to 8 as plain formulas on raw words, conversions in floating point.
 
-use crate::image::{Number, words};
+use crate::image::{Number, bytes, words};
 
 #[derive(Clone, Copy, PartialEq, Eq)]
 pub enum Without {
@@ -13,6 +13,8 @@ pub enum Without {
     Request6,
     /// Tables are rounded down.
     Request7,
+    /// An answer ends with its bounds.
+    Request8,
 }
 
 /// An image's words, found by the offsets of that drive.
@@ -182,6 +184,15 @@ impl Former {
         }
     }
 
+    fn radius(&self, i: usize) -> i128 {
+        (0..self.n).filter(|&j| j != i).map(|j| self.cost(i, j).abs()).sum()
+    }
+
+    /// The least.
+    fn margin(&self) -> i128 {
+        (0..self.n).map(|i| self.cost(i, i) - self.radius(i)).min().unwrap()
+    }
+
     /// Can every command be zero?
     pub fn can_stop(&self) -> bool {
         (0..self.n).all(|k| self.low(k) <= 0 && 0 <= self.high(k))
@@ -190,9 +201,8 @@ impl Former {
     /// The first of 5, 7, 17 and 8 to 12 that is due, or 0.
     pub fn number(&self) -> Number {
         let (n, one, beta) = (self.n, self.one, self.beta());
-        let radius = |i| (0..n).filter(|&j| j != i).map(|j| self.cost(i, j).abs()).sum::<i128>();
-        let margin = (0..n).map(|i| self.cost(i, i) - radius(i)).min().unwrap();
-        let total = (0..n).map(|i| self.cost(i, i) + radius(i)).max().unwrap();
+        let margin = self.margin();
+        let total = (0..n).map(|i| self.cost(i, i) + self.radius(i)).max().unwrap();
         let below_zero = (0..self.inputs()).any(|j| self.input_limit(j) < 0);
         let faults = [
             (5, below_zero || self.words[8..].iter().any(|word| i128::from(word.abs()) > self.top)),
@@ -223,12 +233,18 @@ impl Former {
     }
 
     /// An accepted image's answer for a state, a target and a start, or the first of 13, 16 and 14 that is due.
-    pub fn solve(&self, [state, target, start]: [&[u8]; 3]) -> Result<Vec<i64>, Number> {
+    pub fn solve(&self, [state, target, start]: [&[u8]; 3]) -> Result<Vec<u8>, Number> {
         let input = |j| (-self.input_limit(j), self.input_limit(j));
         let state = lent(state, self.states, input).ok_or(13u32)?;
         let target = lent(target, self.targets, |j| input(self.states + j)).ok_or(16u32)?;
         let start = lent(start, self.n, |k| (self.low(k), self.high(k))).ok_or(14u32)?;
-        Ok(self.answer(&[state, target].concat(), &start))
+        let inputs = [state, target].concat();
+        let answer = self.answer(&inputs, &start);
+        let mut written = bytes(&answer);
+        if self.without != Without::Request8 {
+            written.extend(self.distance(&inputs, &answer[..self.n]).to_be_bytes());
+        }
+        Ok(written)
     }
 
     /// An accepted image's commands, then its bounds, for the state and the target in one list.
@@ -252,6 +268,16 @@ impl Former {
             }
         }
         z.into_iter().chain(e).map(|value| value as i64).collect()
+    }
+
+    /// D of some commands, through M.
+    pub fn distance(&self, inputs: &[i64], z: &[i64]) -> u64 {
+        let (n, one) = (self.n, self.one);
+        let g = |i| (0..self.inputs()).map(|j| self.gain(i, j) * inputs[j] as i128).sum::<i128>();
+        let step = |i| (0..n).map(|j| self.m(i, j) * z[j] as i128).sum::<i128>() - g(i);
+        let held = |i| step(i).min(one * self.high(i)).max(one * self.low(i));
+        let largest = (0..n).map(|i| (held(i) - one * z[i] as i128).abs()).max().unwrap();
+        -(-largest).div_euclid(self.margin()) as u64
     }
 }
 

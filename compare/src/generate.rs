@@ -5,13 +5,14 @@ use crate::draft::{Draft, keep_former, text};
 use crate::edges;
 use crate::image::{
     COST, GAIN, HIGH, LOW, MOMENTUM, Number, STATE_LIMIT, Sizes, TABLES, TARGET_GAIN, TARGET_LIMIT, bytes,
-    momentum_fits,
+    momentum_fits, words,
 };
 use crate::page::PAGE_LINE;
 use crate::process::Folder;
 use crate::random::Random;
 use crate::rules::Use;
 use crate::sheet::{Frame, LINE, MOST_LINES, hex};
+use crate::solve;
 
 pub const INTAKE_NUMBERS: [Number; 13] = [1, 2, 3, 4, 5, 7, 17, 8, 9, 10, 11, 12, 15];
 pub const PAGE_NUMBERS: [Number; 13] = INTAKE_NUMBERS;
@@ -392,6 +393,13 @@ pub struct SolveCase {
     pub start: Vec<u8>,
 }
 
+impl SolveCase {
+    /// The state, then the target.
+    pub fn inputs(&self) -> Vec<i64> {
+        [words(&self.state), words(&self.target)].concat()
+    }
+}
+
 /// Values within their limits, often at them.
 fn values_within(random: &mut Random, limits: &[(i64, i64)]) -> Vec<i64> {
     let pull = random.below(3);
@@ -442,6 +450,13 @@ pub fn solve_case(random: &mut Random, plan: &Plan) -> SolveCase {
 /// The same with one command and one input: every sum has one term.
 pub fn single_case(random: &mut Random, plan: &Plan) -> SolveCase {
     let sizes = Sizes { motors: 1, steps: 1, states: 1, targets: 0, ..plan.sizes(random) };
+    case_of_sizes(random, plan, sizes)
+}
+
+/// The same with four commands at most.
+pub fn few_case(random: &mut Random, plan: &Plan) -> SolveCase {
+    let (motors, steps) = random.pick(&[(1, 1), (1, 2), (2, 1), (1, 3), (3, 1), (1, 4), (2, 2), (4, 1)]);
+    let sizes = Sizes { motors, steps, ..plan.sizes(random) };
     case_of_sizes(random, plan, sizes)
 }
 
@@ -499,6 +514,15 @@ fn put_word(image: &mut [u8], index: usize, word: i64) {
 /// The length of an output buffer, spoilt for number 15.
 pub fn out_len(random: &mut Random, plan: &Plan, exact: usize) -> usize {
     if plan.has(15) { other_size(random, exact) } else { exact }
+}
+
+/// The same for an answer, whose D might be left out, cut to 32 bits, or given for each command.
+pub fn answer_len(random: &mut Random, plan: &Plan, sizes: &Sizes) -> usize {
+    let n = sizes.commands();
+    let exact = solve::answer_len(n);
+    let mut mistaken = vec![exact - 8, exact - 8, exact - 4, exact + 8, 12 * n, 16 * n];
+    mistaken.retain(|&length| length != exact);
+    if plan.has(15) && random.one_in(2) { random.pick(&mistaken) } else { out_len(random, plan, exact) }
 }
 
 /// The same for a page, whose length might be taken for that of another buffer.

@@ -4,6 +4,7 @@ use std::collections::{BTreeMap, BTreeSet};
 use std::fs::File;
 use std::os::unix::fs::FileExt;
 
+use crate::distance;
 use crate::drive::{Call, Drive, Kind, Outcome, outcome};
 use crate::edges::{self, Fate, TableEdge};
 use crate::image::{HEADER_WORDS, Number, Problem, Sizes, TABLES, words};
@@ -93,8 +94,8 @@ pub struct Harness<'a> {
     pub inputs: BTreeSet<(i64, i64)>,
     /// The nu and N of those whose limits change from step to step.
     pub changing: BTreeSet<(i64, i64)>,
-    /// How often a random solve lay at an edge of check 12 or 17, came to rest in some way, or was another than before
-    /// request 4 or 6, and a random sheet another than before request 7.
+    /// How often a random solve lay at an edge of check 12 or 17, came to rest in some way, had a D or an optimum of
+    /// some kind, or was another than before request 4 or 6, and a random sheet another than before request 7.
     pub edges: BTreeMap<&'static str, u64>,
     /// What became of the numbers of tables in random sheets.
     pub tables: BTreeSet<TableEdge>,
@@ -148,7 +149,7 @@ impl<'a> Harness<'a> {
         let observed = observe(self.drive, call);
         self.meet(call.kind.name(), expected.number);
         match (call.kind, &expected.written) {
-            (Kind::Solve, Some(_)) if self.is_random() => self.cover_solve(&call.inputs[0]),
+            (Kind::Solve, Some(answer)) if self.is_random() => self.cover_solve(&call.inputs, answer),
             (Kind::Solve, None) if self.is_random() && matches!(expected.number, 12 | 17) => {
                 self.cover_edges(&problem_of(&call.inputs[0]), expected.number);
             }
@@ -168,8 +169,8 @@ impl<'a> Harness<'a> {
         !self.quiet && !matches!(self.place.0, "cases" | "damage")
     }
 
-    fn cover_solve(&mut self, image: &[u8]) {
-        let problem = problem_of(image);
+    fn cover_solve(&mut self, lent: &[Vec<u8>], answer: &[u8]) {
+        let problem = problem_of(&lent[0]);
         let header = problem.sizes.words();
         self.sizes.insert(header[..3].to_vec());
         self.formats.insert(header[3..5].to_vec());
@@ -179,10 +180,16 @@ impl<'a> Harness<'a> {
             self.changing.insert((header[0], header[1]));
         }
         self.cover_edges(&problem, 0);
+        let (inputs, commands) = ([words(&lent[1]), words(&lent[2])].concat(), words(&answer[..lent[3].len()]));
+        self.meet_edges(distance::edges(&problem, &inputs, &commands));
     }
 
     fn cover_edges(&mut self, problem: &Problem, number: Number) {
-        edges::of_problem(problem, number).into_iter().for_each(|edge| self.meet_edge(edge));
+        self.meet_edges(edges::of_problem(problem, number));
+    }
+
+    pub fn meet_edges(&mut self, edges: Vec<&'static str>) {
+        edges.into_iter().for_each(|edge| self.meet_edge(edge));
     }
 
     pub fn meet_edge(&mut self, edge: &'static str) {

@@ -241,6 +241,12 @@ impl Problem {
         [&self.lower, &self.upper].iter().any(|limits| limits[motors..] != limits[..limits.len() - motors])
     }
 
+    /// G: the linear term undivided, for a state and then a target. By its headroom an accepted row's is at most top ×
+    /// 2^b.
+    pub fn linear_sums(&self, inputs: &[i64]) -> Vec<i128> {
+        self.gains.rows().map(|row| products(row, inputs).sum()).collect()
+    }
+
     /// Minus and plus each state's limit.
     pub fn state_ranges(&self) -> Vec<(i64, i64)> {
         ranges(&self.input_limits[..self.sizes.states])
@@ -294,9 +300,13 @@ impl Problem {
         magnitudes - self.cost[row][row].abs()
     }
 
+    /// What check 9 has of each row, in counts.
+    pub fn margins(&self) -> Vec<i64> {
+        (0..self.sizes.commands()).map(|i| self.cost[i][i] - self.radius(i)).collect()
+    }
+
     pub fn least_margin(&self) -> i64 {
-        let margins = (0..self.sizes.commands()).map(|i| self.cost[i][i] - self.radius(i));
-        margins.min().unwrap()
+        self.margins().into_iter().min().unwrap()
     }
 
     pub fn largest_total(&self) -> i64 {

@@ -1,8 +1,9 @@
-//! The second program: document 01 with requests 1 to 7 implemented on its own, beside the static library, the label
+//! The second program: document 01 with requests 1 to 8 implemented on its own, beside the static library, the label
 //! program and the page program.
 
 mod big;
 mod cases;
+mod distance;
 mod double;
 mod draft;
 mod drive;
@@ -13,6 +14,7 @@ mod generate;
 mod harness;
 mod image;
 mod label;
+mod optimum;
 mod page;
 mod process;
 mod random;
@@ -38,7 +40,7 @@ const COUNT: u64 = 100_000;
 const LONG_COUNT: u64 = 20 * COUNT;
 /// From this count on a run has to have met every number of every call, every size, every nr with every n and with every
 /// nx, limits that change along every N, every edge of checks 12 and 17, every way to round a table, every way to come to
-/// rest, and all that requests 4, 6 and 7 change.
+/// rest, every kind of D and of optimum, and all that requests 4, 6 and 7 change.
 const COVERING_COUNT: u64 = 20_000;
 
 struct Options {
@@ -172,7 +174,8 @@ fn require_cover(harness: &mut Harness) {
     }
     require_problems(harness);
     let stopped = trials::STOPPED.into_iter().map(|(_, edge)| edge);
-    for edge in edges::all().chain(trials::CHANGES).chain(stopped).chain(rest::EDGES) {
+    let distances = distance::EDGES.into_iter().chain(optimum::EDGES);
+    for edge in edges::all().chain(trials::CHANGES).chain(stopped).chain(rest::EDGES).chain(distances) {
         let met = harness.edges.get(edge).copied().unwrap_or(0);
         println!("random solves, {edge}: {met}");
         harness.check(met > 0, || format!("  no random solve: {edge}"));

@@ -70,9 +70,9 @@ impl Courses {
         }
     }
 
-    /// The commands, then the bounds, after some sweeps.
-    pub fn answer(&self, sweeps: usize) -> Vec<i64> {
-        [&self.commands[sweeps][0][..], &self.bounds[sweeps][0]].concat()
+    /// The commands and the bounds after some sweeps.
+    pub fn answer(&self, sweeps: usize) -> [&[i64]; 2] {
+        [&self.commands[sweeps][0], &self.bounds[sweeps][0]]
     }
 
     /// The first sweep that leaves z and y as they were, and the first that leaves e and q.

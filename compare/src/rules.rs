@@ -1,5 +1,5 @@
-//! Where a false economy departs from the rules of document 01 and requests 1, 3, 4, 5, 6 and 7; those of request 2
-//! change the page alone.
+//! Where a false economy departs from the rules of document 01 and requests 1, 3, 4, 5, 6 and 7; those of requests
+//! 2 and 8 change the page and D alone.
 
 use crate::image::{Problem, Sizes};
 
@@ -19,6 +19,8 @@ pub enum Use {
     Sweep,
     /// w in the error bound.
     Bound,
+    /// The held step of D.
+    Distance,
 }
 
 /// The command whose limits stand in for those of a command.

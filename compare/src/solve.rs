@@ -1,6 +1,7 @@
 //! One solve: the rounded scheme, its error bound, and the exact scheme beside them.
 
 use crate::big::Big;
+use crate::distance::distance;
 use crate::image::{Number, Problem, Sizes, bytes, open, products, words};
 use crate::rules::{Rules, Use};
 
@@ -127,8 +128,7 @@ impl<'a> Exact<'a> {
     pub fn new(problem: &'a Problem, inputs: &[i64], start: &[i64]) -> Exact<'a> {
         Exact {
             problem,
-            // By its headroom an accepted row's sum is at most top × 2^b.
-            linear: problem.gains.rows().map(|row| products(row, inputs).sum::<i128>() as i64).collect(),
+            linear: problem.linear_sums(inputs).into_iter().map(|sum| sum as i64).collect(),
             scale: Big::new(1),
             commands: start.iter().map(|&z| Big::new(z)).collect(),
             point: start.iter().map(|&z| Big::new(z).times(problem.sizes.one())).collect(),
@@ -166,7 +166,7 @@ impl<'a> Exact<'a> {
 }
 
 /// Not clamp, which stops at limits that cross: a false economy may let them pass.
-fn held(value: i64, (low, high): (i64, i64)) -> i64 {
+pub fn held<T: Ord>(value: T, (low, high): (T, T)) -> T {
     value.min(high).max(low)
 }
 
@@ -175,15 +175,39 @@ pub fn cold_start(problem: &Problem) -> Vec<i64> {
     vec![0; problem.sizes.commands()]
 }
 
-/// The commands, then the bounds.
-pub fn answer(problem: &Problem, inputs: &[i64], start: &[i64]) -> (Vec<i64>, Vec<i64>) {
+/// What a solve answers.
+pub struct Answer {
+    pub commands: Vec<i64>,
+    pub bounds: Vec<i64>,
+    /// D.
+    pub distance: u64,
+}
+
+impl Answer {
+    /// With the D of these commands.
+    pub fn new(problem: &Problem, inputs: &[i64], commands: &[i64], bounds: &[i64]) -> Answer {
+        let distance = distance(problem, inputs, commands);
+        Answer { commands: commands.to_vec(), bounds: bounds.to_vec(), distance }
+    }
+
+    /// D is one word of 64 bits.
+    pub fn bytes(&self) -> Vec<u8> {
+        [bytes(&self.commands), bytes(&self.bounds), self.distance.to_be_bytes().to_vec()].concat()
+    }
+}
+
+pub fn answer_len(commands: usize) -> usize {
+    8 * commands + 8
+}
+
+pub fn answer(problem: &Problem, inputs: &[i64], start: &[i64]) -> Answer {
     let mut scheme = Rounded::new(problem, inputs, start);
     let mut bound = ErrorBound::new(problem);
     for _ in 0..problem.sizes.iterations {
         scheme.step();
         bound.step();
     }
-    (scheme.z, bound.e)
+    Answer::new(problem, inputs, &scheme.z, &bound.e)
 }
 
 /// Number 13: the state is nx words within their limits.
@@ -222,9 +246,8 @@ pub fn solve_call(lent: [&[u8]; 4], out_len: usize, rules: Rules) -> Result<Vec<
     let problem = open(image, rules)?;
     let inputs = [read_state(&problem, state)?, read_target(&problem, target)?].concat();
     let start = read_start(&problem, start)?;
-    if out_len != 8 * start.len() {
+    if out_len != answer_len(start.len()) {
         return Err(15);
     }
-    let (commands, bounds) = answer(&problem, &inputs, &start);
-    Ok([bytes(&commands), bytes(&bounds)].concat())
+    Ok(answer(&problem, &inputs, &start).bytes())
 }

@@ -7,6 +7,7 @@ use std::rc::Rc;
 
 use crate::big::Big;
 use crate::cases::{self, Rest};
+use crate::distance::distance;
 use crate::double::{self, Rounding};
 use crate::draft::Draft;
 use crate::drive::{Call, Kind, Outcome};
@@ -15,16 +16,18 @@ use crate::former::{Former, Without};
 use crate::generate::{self, Plan, SolveCase};
 use crate::harness::{Harness, Lent};
 use crate::image::{
-    GAIN, HEADER_WORDS, Number, Problem, STATE_LIMIT, Sizes, TABLES, bytes, products, sizes_of_word_fit, top, words,
+    GAIN, HEADER_WORDS, HIGH, LOW, Number, Problem, STATE_LIMIT, Sizes, TABLES, bytes, products, sizes_of_word_fit,
+    top, words,
 };
 use crate::label;
+use crate::optimum::Optimum;
 use crate::page::{self, PAGE_LINE};
 use crate::process::Program;
 use crate::random::Random;
 use crate::rest::{self, Courses, MOST_SWEEPS};
 use crate::rules::{Rules, Use};
 use crate::sheet::{self, LINE, MOST_LINES, hex, number_of, unhex};
-use crate::solve::{ErrorBound, Exact, Rounded};
+use crate::solve::{Answer, ErrorBound, Exact, Rounded, answer_len};
 
 type Trial = Box<dyn Fn(&mut Harness, u64, &mut Random)>;
 
@@ -63,6 +66,7 @@ pub fn groups(count: u64, has_conversions: bool, work: &Path) -> Vec<Group> {
         group("intake", count, intake),
         group("page", count / 4, page),
         group("demand3", count / 25, demand3),
+        group("optimum", count / 25, optimum),
         group("rest", count / 100, rest),
         group("former", count / 50, former),
     ];
@@ -99,7 +103,7 @@ fn program_group(program: Program, count: u64, path: &Path, work: &Path) -> Grou
 fn solve(harness: &mut Harness, index: u64, random: &mut Random) {
     let plan = Plan::new(random, index, &generate::SOLVE_NUMBERS);
     let SolveCase { draft, image, state, target, start } = generate::solve_case(random, &plan);
-    let out_len = generate::out_len(random, &plan, 8 * draft.sizes.commands());
+    let out_len = generate::answer_len(random, &plan, &draft.sizes);
     harness.compare(&Call::on_buffers(Kind::Solve, &[&image, &state, &target, &start], out_len));
 }
 
@@ -226,7 +230,7 @@ fn damage(harness: &mut Harness, index: u64, _: &mut Random) {
             let (state, target, start) = (zeros(draft.sizes.states), zeros(draft.sizes.targets), zeros(n));
             for image in damaged(&image, index) {
                 harness.compare(&Call::on_buffers(Kind::ColdStart, &[&image], 4 * n));
-                harness.compare(&Call::on_buffers(Kind::Solve, &[&image, &state, &target, &start], 8 * n));
+                harness.compare(&Call::on_buffers(Kind::Solve, &[&image, &state, &target, &start], answer_len(n)));
             }
             return;
         }
@@ -258,14 +262,46 @@ fn demand3(harness: &mut Harness, index: u64, random: &mut Random) {
         bound.step();
         exact.step();
         holds &= iterates_in_range(&problem, &rounded) && is_near(&rounded, &bound, &exact);
+        holds &= distance_in_range(&problem, &inputs, &rounded.z);
         harness.check(holds, || format!("  demand 3 fails in sweep {iteration} of image {:?}", draft.body));
         // All prefixes of a short run, some of a long one.
         if iteration <= 8 || iteration == iterations || random.one_in(iterations / 8 + 1) {
             let image = draft.clone().iterations(iteration).image();
-            let call = Call::on_buffers(Kind::Solve, &[&image, &state, &target, &start], 8 * start_words.len());
+            let call = Call::on_buffers(Kind::Solve, &[&image, &state, &target, &start], answer_len(start_words.len()));
             let outcome = harness.compare(&call);
-            let prefix = Some([bytes(&rounded.z), bytes(&bound.e)].concat());
+            let prefix = Some(Answer::new(&problem, &inputs, &rounded.z, &bound.e).bytes());
             harness.check(outcome.written == prefix, || format!("  no prefix: {iteration} sweeps"));
+        }
+    }
+}
+
+/// Request 8 on every sweep: D beside the optimum in fractions, in turn of few commands and of any number of which few
+/// are coupled, and the drive's D for fewer sweeps.
+fn optimum(harness: &mut Harness, index: u64, random: &mut Random) {
+    let few = !index.is_multiple_of(4);
+    let draw = || {
+        let plan = Plan::nothing();
+        if few { generate::few_case(random, &plan) } else { generate::solve_case(random, &plan) }
+    };
+    let case = first(draw, |case| Optimum::new(&case.draft.problem(), &case.inputs()).is_some());
+    let (problem, inputs, start) = (case.draft.problem(), case.inputs(), words(&case.start));
+    let optimum = Optimum::new(&problem, &inputs).expect("few commands are coupled");
+    harness.check(optimum.is_whole(), || format!("  there is no optimum for image {:?}", case.draft.body));
+    let mut rounded = Rounded::new(&problem, &inputs, &start);
+    let iterations = case.draft.sizes.iterations;
+    for iteration in 1..=iterations {
+        rounded.step();
+        let distance = distance(&problem, &inputs, &rounded.z);
+        let holds =
+            optimum.is_near(&rounded.z, distance) && (distance == 0) == optimum.is_at(&rounded.z) && distance < 1 << 52;
+        harness.check(holds, || format!("  D is {distance} after {iteration} sweeps of image {:?}", case.draft.body));
+        harness.meet_edges(optimum.edges(&rounded.z, distance));
+        if iteration <= 4 || iteration == iterations {
+            let image = case.draft.clone().iterations(iteration).image();
+            let lent: [&[u8]; 4] = [&image, &case.state, &case.target, &case.start];
+            let written = harness.compare(&Call::on_buffers(Kind::Solve, &lent, answer_len(start.len()))).written;
+            let holds = written.is_some_and(|answer| answer.ends_with(&distance.to_be_bytes()));
+            harness.check(holds, || format!("  another D after {iteration} sweeps: {distance}"));
         }
     }
 }
@@ -285,14 +321,16 @@ fn rest(harness: &mut Harness, _: u64, random: &mut Random) {
 /// Returns the commands after the most sweeps.
 fn about_rest(harness: &mut Harness, case: &SolveCase, start: &[i64]) -> Vec<i64> {
     let SolveCase { draft, state, target, .. } = case;
-    let courses = Courses::new(&draft.problem(), &[words(state), words(target)].concat(), start);
+    let (problem, inputs) = (draft.problem(), [words(state), words(target)].concat());
+    let courses = Courses::new(&problem, &inputs, start);
     harness.check(courses.stay(), || format!("  what was at rest moves again: {:?}", draft.body));
     courses.edges().for_each(|edge| harness.meet_edge(edge));
     for sweeps in rest::about(courses.moments()) {
         let image = draft.clone().iterations(sweeps).image();
-        let call = Call::on_buffers(Kind::Solve, &[&image, state, target, &bytes(start)], 8 * start.len());
+        let call = Call::on_buffers(Kind::Solve, &[&image, state, target, &bytes(start)], answer_len(start.len()));
         let written = harness.compare(&call).written;
-        let answer = Some(bytes(&courses.answer(sweeps)));
+        let [commands, bounds] = courses.answer(sweeps);
+        let answer = Some(Answer::new(&problem, &inputs, commands, bounds).bytes());
         harness.check(written == answer, || format!("  another answer than after {sweeps} of more sweeps"));
     }
     let [commands, _] = &courses.commands[MOST_SWEEPS];
@@ -346,11 +384,21 @@ fn iterates_in_range(problem: &Problem, rounded: &Rounded) -> bool {
     })
 }
 
+/// The sums of D: F z, less the products of H z, less those of G.
+fn distance_in_range(problem: &Problem, inputs: &[i64], commands: &[i64]) -> bool {
+    let one = i128::from(problem.sizes.one());
+    (0..commands.len()).all(|k| {
+        let own = one * i128::from(commands[k]);
+        let taken = products(&problem.cost[k], commands).chain(products(&problem.gains[k], inputs));
+        sums_in_range([own].into_iter().chain(taken.map(|product| -product)))
+    })
+}
+
 fn is_near(rounded: &Rounded, bound: &ErrorBound, exact: &Exact) -> bool {
     (0..rounded.z.len()).all(|k| exact.is_near(k, rounded.z[k], bound.e[k]))
 }
 
-/// Requests 3, 4, 6 and 7, each beside the drive that lacks it alone.
+/// Requests 3, 4, 6, 7 and 8, each beside the drive that lacks it alone.
 fn former(harness: &mut Harness, index: u64, random: &mut Random) {
     one_step(harness, index, random);
     former_layout(harness, random);
@@ -361,6 +409,7 @@ fn former(harness: &mut Harness, index: u64, random: &mut Random) {
     stopped_sheet(harness, index, random);
     stopped_image(harness, index, random);
     rounded_tables(harness, index, random);
+    added_distance(harness, index, random);
 }
 
 /// In turn nothing, and a number of the tables.
@@ -417,7 +466,7 @@ fn former_layout(harness: &mut Harness, random: &mut Random) {
         refused(Kind::Page, &[&sheet], PAGE_LINE * lines, 2);
     }
     refused(Kind::ColdStart, &[&image], 4 * n, 6);
-    refused(Kind::Solve, &[&image, &state, &target, &zeros(n)], 8 * n, 6);
+    refused(Kind::Solve, &[&image, &state, &target, &zeros(n)], answer_len(n), 6);
 }
 
 /// Where all steps of a motor have the same limits, as with N 1, number and answer are the former ones.
@@ -431,12 +480,11 @@ fn same_limits(harness: &mut Harness, index: u64, random: &mut Random) {
 
 fn answer(harness: &mut Harness, case: &SolveCase) -> Result<Vec<u8>, Number> {
     let lent: [&[u8]; 4] = [&case.image, &case.state, &case.target, &case.start];
-    result(harness.compare(&Call::on_buffers(Kind::Solve, &lent, 8 * case.draft.sizes.commands())))
+    result(harness.compare(&Call::on_buffers(Kind::Solve, &lent, answer_len(case.draft.sizes.commands()))))
 }
 
 fn former_answer(case: &SolveCase, former: Former) -> Result<Vec<u8>, Number> {
-    let answer = former.accepted()?.solve([&case.state, &case.target, &case.start])?;
-    Ok(bytes(&answer))
+    former.accepted()?.solve([&case.state, &case.target, &case.start])
 }
 
 /// What request 4 changes, and a run has to meet.
@@ -509,12 +557,12 @@ fn stopped_image(harness: &mut Harness, index: u64, random: &mut Random) {
     let plan = Plan::with_stop(random, index, &generate::SOLVE_NUMBERS);
     let SolveCase { draft, image, state, target, start } = generate::solve_case(random, &plan);
     let former = Former::open(&image, Without::Request6);
-    let n = draft.sizes.commands();
-    let [start_len, answer_len] = [4 * n, 8 * n].map(|exact| generate::out_len(random, &plan, exact));
+    let start_len = generate::out_len(random, &plan, 4 * draft.sizes.commands());
+    let answer_len = generate::answer_len(random, &plan, &draft.sizes);
     let call = Call::on_buffers(Kind::ColdStart, &[&image], start_len);
     stopped(harness, &call, &former, |former| Ok(bytes(&former.cold_start())));
     let call = Call::on_buffers(Kind::Solve, &[&image, &state, &target, &start], answer_len);
-    stopped(harness, &call, &former, |former| Ok(bytes(&former.solve([&state, &target, &start])?)));
+    stopped(harness, &call, &former, |former| former.solve([&state, &target, &start]));
 }
 
 /// What a call answered before, the length of its buffer included.
@@ -609,9 +657,9 @@ fn whole_tables(harness: &mut Harness, sheet: &[u8], lengths: [usize; 2]) {
     let highs = |ranges: Vec<(i64, i64)>| bytes(&ranges.iter().map(|range| range.1).collect::<Vec<i64>>());
     let (state, target) = (highs(problem.state_ranges()), highs(problem.target_ranges()));
     let start = highs(problem.command_ranges(Use::Start));
-    let expected = former.solve([&state, &target, &start]).map(|answer| bytes(&answer));
+    let expected = former.solve([&state, &target, &start]);
     let lent: [&[u8]; 4] = [&bytes(&former.words), &state, &target, &start];
-    let found = result(harness.compare(&Call::on_buffers(Kind::Solve, &lent, 2 * start.len())));
+    let found = result(harness.compare(&Call::on_buffers(Kind::Solve, &lent, answer_len(sizes.commands()))));
     harness.check(found == expected, || format!("  the drive without request 7 answered {expected:?}"));
 }
 
@@ -634,6 +682,28 @@ fn moved_tables(harness: &mut Harness, sheet: &[u8], image_len: usize) {
     harness.check(holds, || format!("  not a change of request 7: without it it was {old:?}"));
 }
 
+/// Request 8 beside the drive without it: with D's 8 bytes more a buffer has the same number, commands and bounds, and
+/// the former length is 15 where that drive took it.
+fn added_distance(harness: &mut Harness, index: u64, random: &mut Random) {
+    let plan = Plan::new(random, index, &generate::SOLVE_NUMBERS);
+    let case = generate::solve_case(random, &plan);
+    let out_len = generate::out_len(random, &plan, 8 * case.draft.sizes.commands());
+    let former = Former::open(&case.image, Without::Request8);
+    let expected = before(&former, out_len, |former| former.solve([&case.state, &case.target, &case.start]));
+    let lent: [&[u8]; 4] = [&case.image, &case.state, &case.target, &case.start];
+    let mut found = |out_len| result(harness.compare(&Call::on_buffers(Kind::Solve, &lent, out_len)));
+    let with_distance = found(out_len + 8).map(|answer| answer[..out_len].to_vec());
+    let short = found(out_len).err();
+    // A length that the former drive refused may be right now.
+    let short_holds = match expected {
+        Ok(_) => short == Some(15),
+        Err(15) => true,
+        Err(number) => short == Some(number),
+    };
+    let holds = with_distance == expected && short_holds;
+    harness.check(holds, || format!("  the drive without request 8 answered {expected:?}"));
+}
+
 fn are_moved(old: &[i64], new: &[i64]) -> bool {
     let (sizes, body) = sizes_and_body(new);
     let (header, old_body) = old.split_at(HEADER_WORDS);
@@ -645,8 +715,9 @@ fn are_moved(old: &[i64], new: &[i64]) -> bool {
 
 /// The commands' words, and the bounds, which are unsigned.
 fn halves(answer: &[u8]) -> (Vec<u32>, Vec<u32>) {
-    let mut commands: Vec<u32> = words(answer).iter().map(|&word| word as u32).collect();
-    let bounds = commands.split_off(answer.len() / 8);
+    let (words_of_both, _) = answer.split_at(answer.len() - 8);
+    let mut commands: Vec<u32> = words(words_of_both).iter().map(|&word| word as u32).collect();
+    let bounds = commands.split_off(commands.len() / 2);
     (commands, bounds)
 }
 
@@ -730,6 +801,8 @@ fn itself(harness: &mut Harness, _: u64, random: &mut Random) {
     former_agrees(harness);
     without_stop_agrees(harness);
     without_nearest_agrees(harness);
+    without_distance_agrees(harness);
+    optimum_agrees(harness);
     rests_agree(harness);
     economies::right_ends_agree(harness);
     let mut lent = Lent::new(&[1, 2, 3]);
@@ -753,7 +826,7 @@ fn running_sums_agree(harness: &mut Harness) {
 fn rests_agree(harness: &mut Harness) {
     for Rest { name, draft, state, start, moments, last, .. } in cases::rests() {
         let courses = Courses::new(&draft.problem(), &state, &start);
-        let (found, answer) = (courses.moments(), courses.answer(MOST_SWEEPS));
+        let (found, answer) = (courses.moments(), courses.answer(MOST_SWEEPS).concat());
         let holds = found == moments && answer == last && courses.stay();
         harness.check(holds, || format!("  {name}: at rest in {found:?}, and at last {answer:?}"));
     }
@@ -800,6 +873,62 @@ fn without_nearest_agrees(harness: &mut Harness) {
     harness.check(holds, || "  the drive without request 7 is another".to_string());
 }
 
+/// The drive without request 8: S has 8 bytes, which D follows in the others, and the label program's lines begin with
+/// its words.
+fn without_distance_agrees(harness: &mut Harness) {
+    let solve = |without| {
+        let former = Former::new(cases::sample().words(), without);
+        former.solve([&bytes(&[10]), &[], &bytes(&[0])])
+    };
+    let holds =
+        solve(Without::Request8) == Ok(bytes(&[-18, 3])) && solve(Without::Request7) == Ok(bytes(&[-18, 3, 0, 2]));
+    harness.check(holds, || "  the drive without request 8 is another".to_string());
+    for (folder, text) in (label::PROGRAM.table)() {
+        let Ok(solved) = label::solve(&folder) else {
+            continue;
+        };
+        let former = Former::read(folder.contents()[0], Without::Request8).expect("the sheet is accepted");
+        let n = solved.answer.commands.len();
+        let answer = former.answer(&solved.inputs, &vec![0; n]);
+        let begins = |(k, line): (usize, &str)| {
+            let former = format!("{:08X} {:08X} ", answer[k] as u32, answer[n + k]);
+            line.strip_prefix(&former).is_some_and(|digits| matches!(digits.len(), 8 | 16))
+        };
+        let holds = text.lines().count() == n && text.lines().enumerate().all(begins);
+        harness.check(holds, || format!("  not the former lines with D behind them: {text:?}"));
+    }
+}
+
+/// Commands with the least D that covers their distance from the optimum. That of S is −20, with Φ 15 it is −18.75, and
+/// with limits −1 and 1 it is −1. That of the coupled steps is (−19, −2), or with wide limits −40 / 3 twice.
+fn optimum_agrees(harness: &mut Harness) {
+    let s = cases::sample;
+    let (fraction, narrow) = (s().with(GAIN, &[15]), s().with(LOW, &[-1]).with(HIGH, &[1]));
+    let (coupled, wide) = (cases::coupled([(-20, 20), (-2, 5)]), cases::coupled([(-20, 20); 2]));
+    let table: [(&Draft, &[i64], u64); 12] = [
+        (&s(), &[-20], 0),
+        (&s(), &[-18], 2),
+        (&fraction, &[-18], 1),
+        (&fraction, &[-19], 1),
+        (&fraction, &[-10], 9),
+        (&narrow, &[-1], 0),
+        (&narrow, &[1], 2),
+        (&coupled, &[-19, -2], 0),
+        (&coupled, &[-19, 0], 2),
+        (&wide, &[-13, -14], 1),
+        (&wide, &[-13, -10], 4),
+        (&cases::one_sided(), &[0, -20, 0], 0),
+    ];
+    for (draft, commands, least) in table {
+        let problem = draft.problem();
+        let optimum = Optimum::new(&problem, &[10]).expect("few commands are coupled");
+        let covers = |distance: u64| optimum.is_near(commands, distance);
+        let holds =
+            optimum.is_whole() && covers(least) && !(0..least).any(covers) && optimum.is_at(commands) == (least == 0);
+        harness.check(holds, || format!("  {commands:?} are not {least} from the optimum"));
+    }
+}
+
 /// Big numbers beside 128-bit ones.
 fn big_agrees(harness: &mut Harness, random: &mut Random) {
     for _ in 0..1000 {
@@ -810,7 +939,10 @@ fn big_agrees(harness: &mut Harness, random: &mut Random) {
         let (high, low) = ((whole >> 62) as i64, (whole & ((1 << 62) - 1)) as i64);
         let mut expected = Big::new(high).times(1 << 62);
         expected.add_product(&Big::new(low), 1);
-        let holds = sum == expected && sum.is_negative() == (whole < 0) && !sum.magnitude().is_negative();
+        let holds = sum == expected
+            && sum == Big::wide(whole)
+            && sum.is_negative() == (whole < 0)
+            && !sum.magnitude().is_negative();
         harness.check(holds, || format!("  big numbers: {a} × {b} + {c} × {d} is {sum:?}"));
     }
 }

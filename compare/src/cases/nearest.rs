@@ -5,8 +5,8 @@
 use super::Expect::{self, *};
 use super::sums::{TOP, resized};
 use super::{
-    Case, PAGE_OF_SAMPLE, PAGE_OF_TWO_MOTORS, SAMPLE, coupled, page_case, page_with, sample, sheet_case, two_steps,
-    uncoupled, with_limits, with_target, with_target_text, with_targets,
+    Case, PAGE_OF_SAMPLE, PAGE_OF_TWO_MOTORS, SAMPLE, coupled, label, page_case, page_with, sample, sheet_case,
+    two_steps, uncoupled, with_limits, with_target, with_target_text, with_targets,
 };
 use crate::double::of_count;
 use crate::draft::{Draft, text};
@@ -36,19 +36,7 @@ pub fn sheets() -> Vec<(Vec<u8>, Number)> {
 
 /// The label program's folders: the answers below, and those sheets without a state, whose 13 comes later.
 pub fn folders() -> Table {
-    let hex = |word: &i64| format!("{:08X}", *word as u32);
-    let words = |words: &[u8]| Some(format!("{}\n", crate::sheet::hex(words)).into_bytes());
-    let solved = answers().into_iter().filter_map(|case| match &case.expect {
-        Answer(row) => {
-            let (commands, bounds) = row.split_at(row.len() / 2);
-            let lines = commands.iter().zip(bounds).map(|(z, e)| format!("{} {}\n", hex(z), hex(e)));
-            let printed = lines.collect::<String>();
-            let folder =
-                Folder { drive: Some(case.sheet.clone()), state: words(&case.state), target: words(&case.target) };
-            Some((folder, printed))
-        }
-        _ => None,
-    });
+    let solved = answers().into_iter().map(|case| label(&case));
     let refused = sheets().into_iter().map(|(drive, number)| {
         (Folder { drive: Some(drive), state: None, target: None }, format!("refused {number:02}\n"))
     });
@@ -464,37 +452,42 @@ fn target_headrooms() -> Vec<Case> {
 
 /// Three sweeps for state 10. The bounds are 1, 2, 3 where M is 8, as in S.
 fn answers() -> Vec<Case> {
-    let s = |kind: u8, count: f64, command: i64| {
+    let s = |kind: u8, count: f64, command: i64, distance: u64| {
         let name = format!("the answer with {count} counts in 0{kind}");
-        counted(&name, &sample(), &[(kind, 0, count)], Answer(vec![command, 3]))
+        counted(&name, &sample(), &[(kind, 0, count)], Answer(vec![command, 3])).distance(distance)
     };
-    let to = |count: f64, command: i64| {
+    let to = |count: f64, command: i64, distance: u64| {
         let name = format!("the answer with a target table of {count} counts");
-        counted(&name, &with_target(), &[(TARGET_GAIN, 0, count)], Answer(vec![command, 3])).target(&[7])
+        counted(&name, &with_target(), &[(TARGET_GAIN, 0, count)], Answer(vec![command, 3]))
+            .target(&[7])
+            .distance(distance)
     };
     let steps = coupled([(-20, 20), (-2, 5)]);
     vec![
-        s(GAIN, -0.5, 0),
-        s(GAIN, 0.5, 0),
-        // h = −1.25, which is −2: 2, 1 + 2, 1 + 2 for 1.5. h = 1: −1, −1 − 1 for −0.5, −1 − 1.
-        s(GAIN, -1.5, 3),
-        s(GAIN, 1.5, -2),
-        // S itself, and h = 11.25, which is 11: −11, −6 − 11 for −5.5, −9 − 11 for −8.5.
-        s(GAIN, 15.5, -18),
-        s(GAIN, 16.5, -18),
-        s(GAIN, 17.5, -20),
-        s(COST, 7.5, -18),
-        s(COST, 8.5, -18),
-        // M is 6: −10, −4 − 10 for −3.75, −6 − 10 for −5.25. e: 1; 12 / 16 is 1, 1 + 1; 18 / 16 is 2, 2 + 1.
-        s(COST, 9.5, -16),
-        s(COST, 10.5, -16),
-        // The case "S with a target", and h = (160 − 70) / 16 = 5.625, which is 5: −5, −3 − 5 for −2.5, −4 − 5.
-        to(-7.5, -11),
-        to(-8.5, -11),
-        to(-9.5, -9),
-        to(-10.5, -9),
+        s(GAIN, -0.5, 0, 0),
+        s(GAIN, 0.5, 0, 0),
+        // h = −1.25, which is −2: 2, 1 + 2, 1 + 2 for 1.5. h = 1: −1, −1 − 1 for −0.5, −1 − 1. The optimum is half a
+        // count away, at 20 / 8 and −20 / 8.
+        s(GAIN, -1.5, 3, 1),
+        s(GAIN, 1.5, -2, 1),
+        // S itself, and h = 11.25, which is 11: −11, −6 − 11 for −5.5, −9 − 11 for −8.5. The step is held.
+        s(GAIN, 15.5, -18, 2),
+        s(GAIN, 16.5, -18, 2),
+        s(GAIN, 17.5, -20, 0),
+        s(COST, 7.5, -18, 2),
+        s(COST, 8.5, -18, 2),
+        // M is 6: −10, −4 − 10 for −3.75, −6 − 10 for −5.25, the optimum. e: 12 / 16 is 1, 1 + 1; 18 / 16 is 2, 2 + 1.
+        s(COST, 9.5, -16, 0),
+        s(COST, 10.5, -16, 0),
+        // The case "S with a target", and h = (160 − 70) / 16 = 5.625, which is 5: −5, −3 − 5 for −2.5, −4 − 5. The
+        // optimum is −90 / 8 = −11.25.
+        to(-7.5, -11, 2),
+        to(-8.5, -11, 2),
+        to(-9.5, -9, 3),
+        to(-10.5, -9, 3),
         // The case "coupled steps".
-        counted("coupled steps by ties", &steps, &[(COST, 1, 3.5), (COST, 2, 4.5)], Answer(vec![-20, -2, 7, 7])),
+        counted("coupled steps by ties", &steps, &[(COST, 1, 3.5), (COST, 2, 4.5)], Answer(vec![-20, -2, 7, 7]))
+            .distance(2),
     ]
 }
 

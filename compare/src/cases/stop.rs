@@ -4,7 +4,7 @@ use super::Expect::{self, *};
 use super::sums::{TOP, resized};
 use super::{
     Case, FOUR, PAGE_OF_THREE_STEPS, SAMPLE, case, one_sided, page_case, runs, sample, sheet_case, two_steps,
-    with_doubles, with_steps, with_target,
+    with_distances, with_doubles, with_steps, with_target,
 };
 use crate::draft::Draft;
 use crate::image::{COST, GAIN, HIGH, LOW, MOMENTUM, Number, STATE_LIMIT, TARGET_LIMIT};
@@ -37,8 +37,9 @@ pub fn folders() -> Table {
     };
     let answer = |state: &str, text: &str| folder(one_sided().sheet(), Some(state), text.to_string());
     let mut table = vec![
-        answer("0000000A\n", "00000000 00000003\nFFFFFFEE 00000003\n00000000 00000000\n"),
-        answer("FFFFFFF6\n", "00000011 00000003\n00000000 00000003\n00000000 00000000\n"),
+        // −18 is 2 from −20, and 17 is 3 from 20.
+        answer("0000000A\n", "00000000 00000003 00000002\nFFFFFFEE 00000003 00000002\n00000000 00000000 00000002\n"),
+        answer("FFFFFFF6\n", "00000011 00000003 00000003\n00000000 00000003 00000003\n00000000 00000000 00000003\n"),
     ];
     table.extend(sheets().into_iter().map(|(drive, number)| folder(drive, None, format!("refused {number:02}\n"))));
     table
@@ -73,9 +74,9 @@ fn zero_at_limits() -> Vec<Case> {
     let run = |(name, limits, state, rows): (&str, _, i64, [&[i64]; 3])| runs(name, &within(limits), &[state], &rows);
     let mut table: Vec<Case> = list.into_iter().flat_map(run).collect();
     let rows: [&[i64]; 3] = [&[0, -10, 0, 1, 1, 0], &[0, -15, 0, 2, 2, 0], &[0, -18, 0, 3, 3, 0]];
-    table.extend(runs("one-sided steps", &one_sided(), &[10], &rows));
+    table.extend(with_distances(runs("one-sided steps", &one_sided(), &[10], &rows), &[10, 5, 2]));
     let rows: [&[i64]; 3] = [&[10, 0, 0, 1, 1, 0], &[15, 0, 0, 2, 2, 0], &[17, 0, 0, 3, 3, 0]];
-    table.extend(runs("one-sided steps, upward", &one_sided(), &[-10], &rows));
+    table.extend(with_distances(runs("one-sided steps, upward", &one_sided(), &[-10], &rows), &[10, 5, 3]));
     let rows: [&[i64]; 3] = [&[0, -10, 1, 1], &[0, -15, 2, 2], &[0, -18, 3, 3]];
     table.extend(runs("one-sided motors", &with_steps(2, &[(0, 20), (-20, 0)]), &[10], &rows));
     let rows: [&[i64]; 3] =
@@ -336,7 +337,7 @@ fn before_8() -> Vec<Case> {
 fn before_13() -> Vec<Case> {
     let of = |limits: (i64, i64)| {
         let draft = with_target().with(LOW, &[limits.0]).with(HIGH, &[limits.1]);
-        let with = |state: i64, target: i64, start: i64, spare: usize| {
+        let with = |state: i64, target: i64, start: i64, spare: isize| {
             let name = format!("17 with state {state}, target {target}, start {start}, {spare} bytes too many");
             case(&name, &draft, &[state], Refused(17)).target(&[target]).start(&[start]).spare(spare)
         };

@@ -1,7 +1,7 @@
 //! The cases of requests 4 and 5: sums that are rounded once, the headroom of sums, and rows of many lengths.
 
 use super::Expect::{self, *};
-use super::{Case, case, coupled, runs, runs_to, sample, uncoupled};
+use super::{Case, case, coupled, runs, runs_to, sample, uncoupled, with_distances};
 use crate::draft::Draft;
 use crate::image::{COST, GAIN, HIGH, LOW, MOMENTUM, STATE_LIMIT, Sizes, TARGET_GAIN, TARGET_LIMIT};
 
@@ -49,32 +49,36 @@ fn runs_from(name: &str, draft: &Draft, start: &[i64], rows: &[&[i64]]) -> Vec<C
 }
 
 /// h. With h = 1 z is −1, then −0.5, which is −1, less 1; with −1 it is 1, then 0.5, which is 0, plus 1. e is as in S.
+/// D is the distance from −G / 8, rounded up: G counts sixteenths, and a half is 8 of them.
 fn rounded_inputs() -> Vec<Case> {
     let (above, none, below): ([&[i64]; 3], [&[i64]; 3], [&[i64]; 3]) =
         ([&[-1, 1], &[-2, 2], &[-2, 3]], [&[0, 1], &[0, 2], &[0, 3]], [&[1, 1], &[1, 2], &[1, 3]]);
     // A half each: by themselves they would be 0 and 0, or −1 and −1.
     let two = with_inputs(&[(8, 10), (8, 10)], &[]);
-    let mut table = runs("two halves of states", &two, &[1, 1], &above);
-    table.extend(runs("two halves of states below zero", &two, &[-1, -1], &below));
+    let mut table = with_distances(runs("two halves of states", &two, &[1, 1], &above), &[1, 0, 0]);
+    table.extend(with_distances(runs("two halves of states below zero", &two, &[-1, -1], &below), &[1; 3]));
     let both = with_inputs(&[(8, 10)], &[(8, 7)]);
-    table.extend(runs_to("a half of a state, a half of a target", &both, &[1], &[1], &above));
-    table.extend(runs_to("two halves below zero", &both, &[-1], &[-1], &below));
-    table.extend(runs_to("a half above zero and one below", &both, &[1], &[-1], &none));
+    let mut halves = |name: &str, state: i64, target: i64, rows: &[&[i64]], distances: &[u64]| {
+        table.extend(with_distances(runs_to(name, &both, &[state], &[target], rows), distances));
+    };
+    halves("a half of a state, a half of a target", 1, 1, &above, &[1, 0, 0]);
+    halves("two halves below zero", -1, -1, &below, &[1; 3]);
+    halves("a half above zero and one below", 1, -1, &none, &[0; 3]);
     // Sixteenths: 16, −16, 12 − 4 = 8 and −12 + 4 = −8 of them. By themselves they would be 0 or −1 each, and the parts
     // of state and target 0, −1 and −1, 0 and −1, −1 and 0.
     let many = with_inputs(&[(1, 1); 12], &[(1, 1); 4]);
-    let mut sixteenths = |state: i64, target: i64, rows: &[&[i64]]| {
+    let mut sixteenths = |state: i64, target: i64, rows: &[&[i64]], distances: &[u64]| {
         let name = format!("sixteenths, twelve {state} and four {target}");
-        table.extend(runs_to(&name, &many, &[state; 12], &[target; 4], rows));
+        table.extend(with_distances(runs_to(&name, &many, &[state; 12], &[target; 4], rows), distances));
     };
-    sixteenths(1, 1, &above);
-    sixteenths(-1, -1, &below);
-    sixteenths(1, -1, &none);
-    sixteenths(-1, 1, &below);
+    sixteenths(1, 1, &above, &[1, 0, 0]);
+    sixteenths(-1, -1, &below, &[1; 3]);
+    sixteenths(1, -1, &none, &[1; 3]);
+    sixteenths(-1, 1, &below, &[0; 3]);
     // t = 0 − 0, and 0 + 1: h is rounded before it is taken off, so that t is not −0.5 or 0.5, rounded.
     let half = with_inputs(&[(8, 10)], &[]);
-    table.extend(runs("half a count to take off", &half, &[1], &none));
-    table.extend(runs("half a count to add", &half, &[-1], &below));
+    table.extend(with_distances(runs("half a count to take off", &half, &[1], &none), &[1; 3]));
+    table.extend(with_distances(runs("half a count to add", &half, &[-1], &below), &[0; 3]));
     table
 }
 
@@ -121,13 +125,15 @@ fn long_sums() -> Vec<Case> {
     let inputs = without_a(wide(with_inputs(&[(one, TOP)], &[])));
     // M is 2^20 − 1: (2^20 − 1) × (2^31 − 1) = 2^51 − 2^31 − 2^20 + 1, which is 2^31 − 2^11 − 1 and a millionth counts.
     let commands = wide(with_inputs(&[(0, 0)], &[])).with(COST, &[1]);
-    let solve =
-        |name: &str, draft: &Draft, state: i64, row: [i64; 2]| case(name, draft, &[state], Answer(row.to_vec()));
+    // D is the distance from −h, and from 0.
+    let solve = |name: &str, draft: &Draft, state: i64, command: i64, distance: u64| {
+        case(name, draft, &[state], Answer(vec![command, 1])).distance(distance)
+    };
     vec![
-        solve("the largest sum of h", &inputs, TOP, [-TOP, 1]),
-        solve("the least sum of h", &inputs, -TOP, [TOP, 1]),
-        solve("the largest sum of M y", &commands, 0, [2147481599, 1]).start(&[TOP]),
-        solve("the least sum of M y", &commands, 0, [-2147481600, 1]).start(&[-TOP]),
+        solve("the largest sum of h", &inputs, TOP, -TOP, 0),
+        solve("the least sum of h", &inputs, -TOP, TOP, 0),
+        solve("the largest sum of M y", &commands, 0, 2147481599, 2147481599).start(&[TOP]),
+        solve("the least sum of M y", &commands, 0, -2147481600, 2147481600).start(&[-TOP]),
     ]
 }
 
@@ -135,19 +141,22 @@ fn long_sums() -> Vec<Case> {
 /// powers of two in counts, so that one that is missed or repeated shows.
 fn long_rows() -> Vec<Case> {
     let powers = |unit: i64, count: usize| (0..count).map(|j| unit << j).collect::<Vec<i64>>();
-    // z = −h, which is 1 + 2 + 4 + 8 + 16, then 32, 64 and 128 more.
+    // z = −h, which is 1 + 2 + 4 + 8 + 16, then 32, 64 and 128 more. The optimum is −2 h.
     let h = |h: i64, count: usize| {
         let state = powers(1, count);
         let inputs: Vec<Input> = state.iter().map(|&limit| (16, limit)).collect();
         let draft = resized(with_inputs(&inputs, &[]), 4, 16).with(LOW, &[-999]).with(HIGH, &[999]);
-        case(&format!("h of {count} states"), &draft.iterations(1), &state, Answer(vec![-h, 1]))
+        let name = format!("h of {count} states");
+        case(&name, &draft.iterations(1), &state, Answer(vec![-h, 1])).distance(h as u64)
     };
     // M is 16 and beside it 1, over 32: a start of 32 × 2^j is 2^j counts in each row, and 15 × 2^j more in its own.
-    let m_y = |commands: &[i64]| {
+    // R is 17 times the last command less the sum of all: 3987 / 12, 7908 / 11, 15685 / 10 and 31110 / 9.
+    let m_y = |commands: &[i64], distance: u64| {
         let n = commands.len();
         let draft = resized(all_coupled(n), 5, 16).with(LOW, &vec![-4096; n]).with(HIGH, &vec![4096; n]);
         let row = [commands, &vec![1; n]].concat();
-        case(&format!("M y of {n} commands"), &draft.iterations(1), &[0], Answer(row)).start(&powers(32, n))
+        let case = case(&format!("M y of {n} commands"), &draft.iterations(1), &[0], Answer(row));
+        case.start(&powers(32, n)).distance(distance)
     };
     vec![
         h(31, 5),
@@ -155,10 +164,10 @@ fn long_rows() -> Vec<Case> {
         h(127, 7),
         h(255, 8),
         // 31, 63, 127 and 255, and 15, 30, 60, 120, 240, 480, 960 and 1920.
-        m_y(&[46, 61, 91, 151, 271]),
-        m_y(&[78, 93, 123, 183, 303, 543]),
-        m_y(&[142, 157, 187, 247, 367, 607, 1087]),
-        m_y(&[270, 285, 315, 375, 495, 735, 1215, 2175]),
+        m_y(&[46, 61, 91, 151, 271], 333),
+        m_y(&[78, 93, 123, 183, 303, 543], 719),
+        m_y(&[142, 157, 187, 247, 367, 607, 1087], 1569),
+        m_y(&[270, 285, 315, 375, 495, 735, 1215, 2175], 3457),
     ]
 }
 

@@ -36,6 +36,6 @@ pub fn economies() -> Vec<Economy> {
 }
 
 /// Does the mistake change some sum of at most so many terms?
-fn shows(times: Times, most: usize) -> bool {
+pub fn shows(times: Times, most: usize) -> bool {
     (1..=most).any(|count| (0..count).any(|i| times(i, count) != 1))
 }

@@ -2,29 +2,29 @@
 //! its commands, or its bounds, where no later sweep changes them, and nowhere else.
 
 use super::loops::MISTAKES;
-use super::{Economy, lazy};
+use super::{Economy, Table, lazy};
 use crate::drive::Kind;
-use crate::image::{COST, HEADER_WORDS, Problem, Sizes, bytes, open, words};
+use crate::image::{COST, HEADER_WORDS, Problem, Sizes, open, words};
 use crate::rest::{Pair, course, rests};
 use crate::rules::{Rules, Times, Use};
-use crate::solve::{ErrorBound, Rounded, read_start, read_state, read_target};
+use crate::solve::{Answer, ErrorBound, Rounded, read_start, read_state, read_target};
 
 /// An accepted solve.
-struct Solve<'a> {
+pub struct Solve<'a> {
     image: &'a [u8],
-    problem: Problem,
-    inputs: Vec<i64>,
-    start: Vec<i64>,
+    pub problem: Problem,
+    pub inputs: Vec<i64>,
+    pub start: Vec<i64>,
 }
 
 /// Is a loop to end, by the problem and by all that it has had?
-type Ends = fn(&Problem, &[Pair]) -> bool;
+pub type Ends = fn(&Problem, &[Pair]) -> bool;
 
 const AT_REST: Ends = |_, course| rests(course);
-const NEVER: Ends = |_, _| false;
+pub const NEVER: Ends = |_, _| false;
 
 impl Solve<'_> {
-    fn of<'a>(inputs: &[&'a [u8]]) -> Solve<'a> {
+    pub fn of<'a>(inputs: &[&'a [u8]]) -> Solve<'a> {
         let problem = open(inputs[0], Rules::default()).expect("the image is accepted");
         let state = read_state(&problem, inputs[1]).expect("the state is accepted");
         let target = read_target(&problem, inputs[2]).expect("the target is accepted");
@@ -32,11 +32,11 @@ impl Solve<'_> {
         Solve { image: inputs[0], problem, inputs: [state, target].concat(), start }
     }
 
-    fn sweeps(&self) -> usize {
+    pub fn sweeps(&self) -> usize {
         self.problem.sizes.iterations
     }
 
-    fn commands(&self, sweeps: usize, ends: Ends) -> Vec<Pair> {
+    pub fn commands(&self, sweeps: usize, ends: Ends) -> Vec<Pair> {
         let mut rounded = Rounded::new(&self.problem, &self.inputs, &self.start);
         course(&mut rounded, sweeps, &|course| ends(&self.problem, course))
     }
@@ -52,22 +52,24 @@ fn last(course: Vec<Pair>) -> Vec<i64> {
     answer
 }
 
-/// A drive with its own commands and bounds.
+/// A drive with its own commands and bounds, and the D of those commands.
 fn drive(name: &str, answer: impl Fn(&Solve) -> [Vec<i64>; 2] + 'static) -> Economy {
     boxed(name, Box::new(answer))
 }
 
-type Answer = Box<dyn Fn(&Solve) -> [Vec<i64>; 2]>;
+type Lists = Box<dyn Fn(&Solve) -> [Vec<i64>; 2]>;
 
 /// Apart from `drive`, which is compiled once for each answer.
-fn boxed(name: &str, answer: Answer) -> Economy {
+fn boxed(name: &str, answer: Lists) -> Economy {
     let economy = lazy(name, move |kind, inputs, number, out| {
         if kind == Kind::Solve && number == 0 {
-            out.copy_from_slice(&answer(&Solve::of(inputs)).map(|list| bytes(&list)).concat());
+            let solve = Solve::of(inputs);
+            let [commands, bounds] = answer(&solve);
+            out.copy_from_slice(&Answer::new(&solve.problem, &solve.inputs, &commands, &bounds).bytes());
         }
         number
     });
-    Economy { at_rest: true, ..economy }
+    Economy { found_on: Table::AtRest, ..economy }
 }
 
 fn ending(name: &str, commands: Ends, bounds: Ends) -> Economy {
