@@ -37,10 +37,10 @@ static int64_t magnitude(int64_t x) { return x < 0 ? -x : x; }
 static int64_t up(int64_t x, int b) { return (x + (1ll << b) - 1) >> b; }
 
 struct tables {
-    int64_t m[16][16], low[16], high[16], h[16], y[16], beta;
+    int64_t m[16][16], low[16], high[16], g[16], h[16], y[16], beta, margin;
 };
 
-static int accepted(const struct problem *p, const struct tables *t)
+static int accepted(const struct problem *p, struct tables *t)
 {
     int n = p->n, limits = 8 + n * n + n * p->nx, targets = limits + 2 * n + 1 + p->nx;
     int64_t f = 1ll << p->b, least = INT64_MAX, largest = 0, top = INT32_MAX;
@@ -56,6 +56,7 @@ static int accepted(const struct problem *p, const struct tables *t)
         least = diagonal - others < least ? diagonal - others : least;
         largest = diagonal + others > largest ? diagonal + others : largest;
     }
+    t->margin = least;
     if (least < 1 || largest > f || (f + t->beta) * (f + t->beta) * least < (f - t->beta) * (f - t->beta) * largest)
         return 0;
     for (int i = 0; i < n; i++) {
@@ -81,20 +82,22 @@ static void load(const struct problem *p, struct tables *t)
         t->high[i] = word(p, limits + n + i);
         int64_t zb = magnitude(t->low[i]) > magnitude(t->high[i]) ? magnitude(t->low[i]) : magnitude(t->high[i]);
         t->y[i] = zb + up(t->beta * (t->high[i] - t->low[i]), p->b);
-        int64_t h = 0;
+        int64_t g = 0;
         for (int j = 0; j < p->nx; j++)
-            h += word(p, 8 + n * n + i * p->nx + j) * get(p->state + 4 * j);
+            g += word(p, 8 + n * n + i * p->nx + j) * get(p->state + 4 * j);
         for (int j = 0; j < p->nr; j++)
-            h += word(p, targets + i * p->nr + j) * get(p->target + 4 * j);
-        t->h[i] = h >> p->b;
+            g += word(p, targets + i * p->nr + j) * get(p->target + 4 * j);
+        t->g[i] = g;
+        t->h[i] = g >> p->b;
         for (int j = 0; j < n; j++)
             t->m[i][j] = (i == j ? 1ll << p->b : 0) - word(p, 8 + i * n + j);
     }
 }
 
-static int64_t held(const struct tables *t, int i, int64_t x)
+static int64_t held(const struct tables *t, int i, int64_t x, int64_t unit)
 {
-    return x < t->low[i] ? t->low[i] : x > t->high[i] ? t->high[i] : x;
+    int64_t low = t->low[i] * unit, high = t->high[i] * unit;
+    return x < low ? low : x > high ? high : x;
 }
 
 static int64_t capped(const struct tables *t, int i, int64_t bound)
@@ -113,12 +116,30 @@ static int64_t next_q(const struct problem *p, const struct tables *t, int64_t e
     return e + up(t->beta * (e + old), p->b) + 1;
 }
 
-static void write_answer(const struct problem *p, const int64_t *z, const int64_t *e, uint8_t *answer)
+/* D: how far the commands are from their held gradient step at most, over the least margin, rounded up. */
+static int64_t distance(const struct problem *p, const struct tables *t, const int64_t *z)
 {
+    int64_t f = 1ll << p->b, largest = 0;
+    for (int i = 0; i < p->n; i++) {
+        int64_t step = -t->g[i];
+        for (int j = 0; j < p->n; j++)
+            step += t->m[i][j] * z[j];
+        int64_t apart = magnitude(held(t, i, step, f) - f * z[i]);
+        largest = apart > largest ? apart : largest;
+    }
+    return (largest + t->margin - 1) / t->margin;
+}
+
+static void write_answer(const struct problem *p, const struct tables *t, const int64_t *z, const int64_t *e,
+                         uint8_t *answer)
+{
+    int64_t d = distance(p, t, z);
     for (int i = 0; i < p->n; i++) {
         put(answer + 4 * i, z[i]);
         put(answer + 4 * (p->n + i), e[i]);
     }
+    put(answer + 8 * p->n, d >> 32);
+    put(answer + 8 * p->n + 4, d);
 }
 
 /* As the papers write it: every sweep is run, commands and bounds together. */
@@ -139,7 +160,7 @@ static uint32_t twin(const struct problem *p, uint8_t *answer)
                 sum += t.m[i][j] * y[j];
                 weight += magnitude(t.m[i][j]) * q[j];
             }
-            next[i] = held(&t, i, (sum >> p->b) - t.h[i]);
+            next[i] = held(&t, i, (sum >> p->b) - t.h[i], 1);
             bound[i] = capped(&t, i, up(weight, p->b) + 1);
         }
         for (int i = 0; i < n; i++) {
@@ -149,7 +170,7 @@ static uint32_t twin(const struct problem *p, uint8_t *answer)
             e[i] = bound[i];
         }
     }
-    write_answer(p, z, e, answer);
+    write_answer(p, &t, z, e, answer);
     return GANTRY_ACCEPTED;
 }
 
@@ -166,7 +187,7 @@ static int commands(const struct problem *p, const struct tables *t, int64_t *z)
             int64_t sum = 0;
             for (int j = 0; j < p->n; j++)
                 sum += t->m[i][j] * y[j];
-            next[i] = held(t, i, (sum >> p->b) - t->h[i]);
+            next[i] = held(t, i, (sum >> p->b) - t->h[i], 1);
         }
         for (int i = 0; i < p->n; i++) {
             int64_t point = next_y(p, t, next[i], z[i]);
@@ -215,7 +236,7 @@ static uint32_t early_twin(const struct problem *p, uint8_t *answer)
         return REFUSED;
     commands(p, &t, z);
     bounds(p, &t, e);
-    write_answer(p, z, e, answer);
+    write_answer(p, &t, z, e, answer);
     return GANTRY_ACCEPTED;
 }
 

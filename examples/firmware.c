@@ -1,5 +1,5 @@
 /* The drive's task as firmware would have it: the sheet becomes an image once, a cold start gives the first start, and each
- * period solves from the commands of the period before. It prints one line a period: state, command, bound. */
+ * period solves from the commands of the period before. It prints one line a period: state, command, bound, D. */
 #include <stdio.h>
 #include <string.h>
 
@@ -33,6 +33,13 @@ static uint32_t get_word(const uint8_t *at)
     return (uint32_t)at[0] << 24 | (uint32_t)at[1] << 16 | (uint32_t)at[2] << 8 | at[3];
 }
 
+/* D: how many counts the commands are from the best sequence at most. It stands behind the commands and their bounds. */
+static uint64_t get_distance(void)
+{
+    const uint8_t *at = answer + 8 * COMMANDS;
+    return (uint64_t)get_word(at) << 32 | get_word(at + 4);
+}
+
 /* One period of the millisecond task. A refusal leaves answer and start as they were: the last commands stay in force. */
 static uint32_t period(int32_t encoder)
 {
@@ -61,7 +68,8 @@ int main(void)
         if (number != GANTRY_ACCEPTED)
             printf("%d refused %02u\n", (int)encoder[k], (unsigned)number);
         else
-            printf("%d %d %u\n", (int)encoder[k], (int)(int32_t)get_word(answer), (unsigned)get_word(answer + 4 * COMMANDS));
+            printf("%d %d %u %llu\n", (int)encoder[k], (int)(int32_t)get_word(answer), (unsigned)get_word(answer + 4 * COMMANDS),
+                   (unsigned long long)get_distance());
     }
     return 0;
 }

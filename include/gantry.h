@@ -34,7 +34,7 @@ extern "C" {
 #define GANTRY_STATE_BYTES(nx) (4 * (size_t)(nx))
 #define GANTRY_TARGET_BYTES(nr) (4 * (size_t)(nr))
 #define GANTRY_START_BYTES(n) (4 * (size_t)(n))
-#define GANTRY_ANSWER_BYTES(n) (8 * (size_t)(n))
+#define GANTRY_ANSWER_BYTES(n) (8 * (size_t)(n) + 8)
 /* Large enough for every image and every page: n 16, nx 12, nr 4. */
 #define GANTRY_MAX_IMAGE_BYTES GANTRY_IMAGE_BYTES(GANTRY_MAX_COMMANDS, GANTRY_MAX_STATES, GANTRY_MAX_TARGETS)
 #define GANTRY_MAX_PAGE_BYTES GANTRY_PAGE_BYTES(GANTRY_MAX_COMMANDS, GANTRY_MAX_STATES, GANTRY_MAX_TARGETS)
@@ -83,12 +83,18 @@ uint32_t gantry_page(const uint8_t *sheet, size_t sheet_len, uint8_t *page, size
  * accepted image, so what it writes is a start that gantry_solve accepts, and commands that stop the drive. */
 uint32_t gantry_cold_start(const uint8_t *image, size_t image_len, uint8_t *start, size_t start_len);
 
-/* Runs the image's sweeps from a start and writes 8n bytes: n commands as signed big-endian 32-bit words, then n error
- * bounds as unsigned ones, both in counts of 2^-b. State, target and start are signed big-endian 32-bit words; with nr 0
- * the target is empty. Numbers: 0, 3, 5 to 17, tested 6, 3, 6, 5, 7, 17, 8 to 13, 16, 14, 15.
- * With 0, each command lies within the limits of its own step, and differs from the command of the exact scheme, which
- * rounds nothing, by at most its bound. A row's products are added in 64 bits, which they do not leave, and divided once,
- * so a row loses at most one count. The commands, the first 4n bytes, are again a start that a solve on this image accepts. */
+/* Runs the image's sweeps from a start and writes 8n + 8 bytes, GANTRY_ANSWER_BYTES: n commands as signed big-endian 32-bit
+ * words, then n error bounds as unsigned ones, then D as one unsigned big-endian 64-bit word, all in counts of 2^-b. State,
+ * target and start are signed big-endian 32-bit words; with nr 0 the target is empty. Numbers: 0, 3, 5 to 17, tested 6, 3,
+ * 6, 5, 7, 17, 8 to 13, 16, 14, 15.
+ * With 0:
+ * - each command lies within the limits of its own step;
+ * - it differs from the command of the exact scheme, which rounds nothing, after the same sweeps, by at most its bound;
+ * - it is within D counts of the optimum, the sequence that no gradient step moves; D is below 2^52.
+ * The bound tells what rounding did, and is the image's alone; D tells how far this answer is from the best one, whatever
+ * the bound says, and so depends on state, target, start and sweeps too. A row's products are added in 64 bits, which they
+ * do not leave, and divided once, so a row loses at most one count. The commands, the first 4n bytes, are again a start that
+ * a solve on this image accepts. */
 uint32_t gantry_solve(const uint8_t *image, size_t image_len, const uint8_t *state, size_t state_len,
                       const uint8_t *target, size_t target_len, const uint8_t *start, size_t start_len,
                       uint8_t *answer, size_t answer_len);
