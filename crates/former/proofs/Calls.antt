@@ -172,7 +172,7 @@ module _ (v : Version) (s : List ℕ) (f : Fits v (sizesOf s)) where
   unfolding headNumber former.headNumber
   head-same = rw (← word-6, body-count v z f)
 
-  image-same : imageNumber s ≡ former.imageNumber v s
+  pub image-same : imageNumber s ≡ former.imageNumber v s
   unfolding imageNumber former.imageNumber
   image-same = rw (head-same, body-same v z f s, tables-same v z f s)
 

@@ -19,7 +19,7 @@ use Rattle.image.specs.Order.{orElse}
 use Rattle.image.specs.Sizes.{commandCount}
 use Rattle.image.specs.Layout.{sizesOf}
 use Rattle.image.proofs.Ordering.{none}
-use Rattle.interface.specs.Calls.{coldAnswer, solveNumber, distanceAfter, solveAnswer}
+use Rattle.interface.specs.Calls.{coldNumber, coldAnswer, solveNumber, distanceAfter, solveAnswer}
 use Rattle.interface.proofs.Guaranteed.{solve-length}
 use Rattle.intake.specs.Intake.{intakeNumber, intakeImage}
 use Rattle.word_file.specs.WordFile.{fileWords}
@@ -29,8 +29,8 @@ use Rattle.label_text.specs.Label.{filesNumber, imageText, labelText}
 use Rattle.former.specs.Version.{beforeDistance}
 use Rattle.former.specs.Former as former
 use Rattle.former.specs.Laws.{Grown, Lengthened}
-use Rattle.former.proofs.Calls.{Fits, cold-same, solvable-same, front-same}
-use Rattle.former.proofs.Sheets.{FitsSheet, files-same, intake-same, sheet-image, page-text-same}
+use Rattle.former.proofs.Calls.{Fits, image-same, cold-same, solvable-same, front-same}
+use Rattle.former.proofs.Sheets.{FitsSheet, files-same, intake-same, sheet-image, page-number-same, sheet-page, page-text-same}
 
 -- ---- every image and every sheet does without request 8
 fits : (image : List ℕ) → Fits beforeDistance (sizesOf image)
@@ -49,11 +49,13 @@ eight-more n room = by (eqb room (n + 0)) refl
     by false q = ne-eqb (room + 8) (n + 8) (λ e. eqb-false room (n + 0) q (omega arith))
 
 pub grown : (image state target start : List ℕ) (room : ℕ) → Grown image state target start room
-unfolding solveNumber former.solveNumber solveAnswer former.solveAnswer
+unfolding coldNumber former.coldNumber solveNumber former.solveNumber solveAnswer former.solveAnswer
 grown image state target start room =
     let none : beforeDistance .targets ≡ false → target ≡ [] = λ e. absurd (true≢false e) in
     let k = sizesOf image .sweeps in
     record {
+      cold-number = rw (image-same beforeDistance image (fits image));
+      cold-answer = cold-same beforeDistance image (fits image);
       number = rw (solvable-same beforeDistance image (fits image) state target start none, eight-more (8 * commandCount (sizesOf image)) room);
       answer = rw (front-same beforeDistance image (fits image) state target start none k, append-nil (former.commandsAndBounds beforeDistance image state target start k));
     }
@@ -128,6 +130,8 @@ unfolding labelText former.labelText
 lengthened sheet state target room = record {
   number = intake-same beforeDistance sheet (fits-sheet sheet) room;
   image = sheet-image beforeDistance sheet (fits-sheet sheet);
+  page-number = page-number-same beforeDistance sheet (fits-sheet sheet) room;
+  page = sheet-page beforeDistance sheet (fits-sheet sheet);
   printed-page = page-text-same beforeDistance sheet (fits-sheet sheet);
   refused = λ h. rw (← (sheet-image beforeDistance sheet (fits-sheet sheet)), ← (intake-same beforeDistance sheet (fits-sheet sheet) (length image))) (by (eqb number 0) refl h);
   begins = λ e i l. let p = none number (filesNumber image state target) e in

@@ -197,7 +197,7 @@ module _ (v : Version) (s : List ℕ) (fit : FitsSheet v s) where
   unfolding intakeNumber former.intakeNumber
   intake-same room = rw (design-same, sheet-image)
 
-  sheet-page : sheetPage s ≡ former.sheetPage v s
+  pub sheet-page : sheetPage s ≡ former.sheetPage v s
   unfolding sheetPage former.sheetPage
   sheet-page = rw (← same) (after-same (headOf (lineAt s 0)) fits .2)
 
@@ -205,7 +205,7 @@ module _ (v : Version) (s : List ℕ) (fit : FitsSheet v s) where
   unfolding designCount former.designCount
   count-same = rw (← same) (after-same (headOf (lineAt s 0)) fits .3)
 
-  page-number-same : (room : ℕ) → pageNumber s room ≡ former.pageNumber v s room
+  pub page-number-same : (room : ℕ) → pageNumber s room ≡ former.pageNumber v s room
   unfolding pageNumber former.pageNumber
   page-number-same room = rw (design-same, count-same)
 

@@ -97,8 +97,10 @@ abbrev pub OthersKept : Sizes → ℕ → Float → Type 0
 OthersKept z kind x = isTableEntry kind ≡ false → wordOf z kind x ≡ former.wordOf beforeNearest z kind x
 
 -- ---- request 8: "The answer buffer grows by one unsigned 64-bit word", "eight more digits after a space on each line"
--- a solve has the number that it had, in a buffer of eight bytes more, and D follows the answer that it was
+-- a cold start is what it was; a solve has the number that it had, in a buffer of eight bytes more, and D follows the answer that it was
 pub record Grown (image state target start : List ℕ) (room : ℕ) : Type 0 where
+  pub cold-number : coldNumber image room ≡ former.coldNumber beforeDistance image room
+  pub cold-answer : coldAnswer image ≡ former.coldAnswer beforeDistance image
   pub number : solveNumber image state target start (room + 8) ≡ former.solveNumber beforeDistance image state target start room
   pub answer : solveAnswer image state target start ≡ former.solveAnswer beforeDistance image state target start ++ patternBytes (distanceAfter image state target start (sizesOf image .sweeps))
 
@@ -119,6 +121,8 @@ labelLine sheet state target = 19 + distanceDigits (patternAt (labelAnswer sheet
 pub record Lengthened (sheet state target : List ℕ) (room : ℕ) : Type 0 where
   pub number : intakeNumber sheet room ≡ former.intakeNumber beforeDistance sheet room
   pub image : intakeImage sheet ≡ former.intakeImage beforeDistance sheet
+  pub page-number : pageNumber sheet room ≡ former.pageNumber beforeDistance sheet room
+  pub page : sheetPage sheet ≡ former.sheetPage beforeDistance sheet
   pub printed-page : pageText sheet ≡ former.pageText beforeDistance sheet
   pub refused : (labelNumber sheet state target ≡ 0 → ⊥) → labelText sheet state target ≡ former.labelText beforeDistance sheet state target
   pub begins : labelNumber sheet state target ≡ 0 → (i : ℕ) → i < commandCount (sizesOf (intakeImage sheet))

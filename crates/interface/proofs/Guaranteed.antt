@@ -128,7 +128,7 @@ module _ (image state target start : List ℕ) (s : Solvable image state target 
   unfolding Demand3
   claim = all-claims image state target start s k
 
-  z-words : Words (commandsAfter image state target start k)
+  pub z-words : Words (commandsAfter image state target start k)
   unfolding commandsAfter
   z-words i h = word-fits (problemOf image) (s .accepted .sized) _ (all1-at (claim .inRange k (omega arith) .z-word) (pos 0) i h)
 

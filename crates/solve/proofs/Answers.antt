@@ -6,18 +6,13 @@ use native.Mathlib.Omega.{arith}
 use lib.ListN.{length, take, drop, drop-of-length-le}
 use lib.Seq.{take-at, drop-at}
 use lib.IntN.{ℤ, pos}
-use Rattle.word.specs.Word.{Words}
 use Rattle.word.proofs.Buffer.{taken}
-use Rattle.gradient.specs.Demand.{Demand3}
-use Rattle.gradient.proofs.Index.{all1-at}
-use Rattle.gradient.proofs.Lengths.{iterate-z-length, error-e-length}
-use Rattle.gradient.proofs.Tests.{start-length}
-use Rattle.gradient.proofs.Sizes.{word-fits}
+use Rattle.gradient.proofs.Lengths.{error-e-length}
 use Rattle.image.specs.Sizes.{commandCount}
 use Rattle.image.specs.Layout.{sizesOf, problemOf}
-use Rattle.interface.specs.Calls.{inputsOf, startOf, commandsAfter, boundsAfter}
+use Rattle.interface.specs.Calls.{commandsAfter, boundsAfter}
 use Rattle.interface.specs.Accepted.{Accepted, Solvable}
-use Rattle.interface.proofs.Demand.{all-claims}
+use Rattle.interface.proofs.Guaranteed.{z-length}
 use Rattle.loading.proofs.Tables.{count-is}
 use Rattle.solve.specs.Reached.{CommandsOf, BoundsOf}
 
@@ -26,20 +21,6 @@ pub behind : (x y s : List ℕ) (at k : ℕ) → length x ≡ at → length s �
 behind x y s at k e h = rw (take-at x s at e, drop-at x s at e, drop-of-length-le s {i = k} h, append-nil y)
 
 -- what a solve answers, as the arrays hold it
-module _ {image state target start : List ℕ} (ok : Solvable image state target start) (k : ℕ) where
-  starts : length (startOf (sizesOf image) start) ≡ length (problemOf image .commands)
-  starts = start-length (problemOf image) (startOf (sizesOf image) start) (ok .starts)
-
-  commands-length : length (commandsAfter image state target start k) ≡ commandCount (sizesOf image)
-  unfolding commandsAfter
-  commands-length = iterate-z-length (problemOf image) (inputsOf (sizesOf image) state target) (startOf (sizesOf image) start) starts k ∙ count-is image
-
-  pub commands-fit : Words (commandsAfter image state target start k)
-  unfolding commandsAfter Demand3
-  commands-fit i h =
-      word-fits (problemOf image) (ok .accepted .sized) _
-      (all1-at (all-claims image state target start ok k .inRange k (omega arith) .z-word) (pos 0) i h)
-
 module _ {image : List ℕ} (ok : Accepted image) (k n : ℕ) (e : n ≡ commandCount (sizesOf image)) where
   pub few : n ≤ 16
   few = omega (arith, ok .whole .sizes .n-high)
@@ -53,5 +34,5 @@ module _ {image : List ℕ} (ok : Accepted image) (k n : ℕ) (e : n ≡ command
 module _ {image state target start : List ℕ} (ok : Solvable image state target start) (k n : ℕ) (e : n ≡ commandCount (sizesOf image)) where
   pub commands-are : (r : List ℤ) → CommandsOf image state target start k r → take n r ≡ commandsAfter image state target start k
   commands-are r at =
-      taken (pos 0) r (commandsAfter image state target start k) n (omega (arith, few (ok .accepted) k n e, at .sized)) (commands-length ok k ∙ sym e)
+      taken (pos 0) r (commandsAfter image state target start k) n (omega (arith, few (ok .accepted) k n e, at .sized)) (z-length image state target start k ∙ sym e)
       (λ i h. at .each i (omega arith))

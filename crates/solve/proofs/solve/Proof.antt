@@ -16,9 +16,10 @@ use Rattle.interface.specs.Tables.{marginOf}
 use Rattle.interface.specs.Calls.{inputsOf, commandsAfter, boundsAfter, distanceAfter, solveAnswer}
 use Rattle.interface.proofs.Accept.{whole-of}
 use Rattle.interface.proofs.Demand.{all-claims}
+use Rattle.interface.proofs.Guaranteed.{z-words}
 use Rattle.array.specs.Arrays.{Tabled}
 use Rattle.solve.specs.Reached.{MatrixOf, CommandsOf, BoundsOf}
-use Rattle.solve.proofs.Answers.{few, commands-fit, commands-are, bounds-are}
+use Rattle.solve.proofs.Answers.{few, commands-are, bounds-are}
 use Rattle.optimum.specs.Optimum.{optimumBound}
 use Rattle.distance.specs.Tables.{Measurable}
 use borrow.Author.Needs.{needs}
@@ -145,7 +146,7 @@ slice-aggregate-put-answer-2 c = sym (e-taken (c .before .before .before .before
 put-answer-requires : tie.Need-put-answer-requires
 put-answer-requires c κs =
     let b = c .before .before .before .before .before .before in
-    (omega (arith, a b .pre .1, n-is (known b), z-taken b, e-taken b), subst Words (sym (z-are b)) (commands-fit (a b .pre .0 .0) (sweeps b)))
+    (omega (arith, a b .pre .1, n-is (known b), z-taken b, e-taken b), subst Words (sym (z-are b)) (z-words (a b .args .image .now) (a b .args .state .now) (a b .args .target .now) (a b .args .start .now) (a b .pre .0 .0) (sweeps b)))
 
 same-length : tie.Need-same-length
 same-length c = search needs
