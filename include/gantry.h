@@ -90,7 +90,8 @@ uint32_t gantry_cold_start(const uint8_t *image, size_t image_len, uint8_t *star
  * With 0:
  * - each command lies within the limits of its own step;
  * - it differs from the command of the exact scheme, which rounds nothing, after the same sweeps, by at most its bound;
- * - it is within D counts of the optimum, the sequence that no gradient step moves; D is below 2^52.
+ * - it is within D counts of the optimum, the sequence that equals its own gradient step, held to the limits; D is below
+ *   2^52, and 0 exactly where the commands are the optimum.
  * The bound tells what rounding did, and is the image's alone; D tells how far this answer is from the best one, whatever
  * the bound says, and so depends on state, target, start and sweeps too. A row's products are added in 64 bits, which they
  * do not leave, and divided once, so a row loses at most one count. The commands, the first 4n bytes, are again a start that

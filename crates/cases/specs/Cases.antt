@@ -200,7 +200,8 @@ table =
     -- state 10 passes 13 in S, 11 does not
     ∷ answers (S 0 20 10) (pos 10) [] 0
     ∷ answers (S 0 20 10) (pos 11) [] 13
-    -- the sheet S has S's image, 56 bytes; with state 0000000A it "prints the single line FFFFFFEE 00000003 (command −18, bound 3)", and D, 2, by request 8
+    -- the sheet S has S's image, 56 bytes; with state 0000000A it "prints the single line FFFFFFEE 00000003 (command −18, bound 3)", by
+    -- request 8 with D, 2
     ∷ writes (text lines) (S 0 20 10)
     ∷ labels (text lines) (textLine "0000000A") [] (textLine "FFFFFFEE 00000003 00000002")
     -- request 1: a target of 5 counts leaves h 5, sweeps 1 to 3; the state's own value as target leaves 0

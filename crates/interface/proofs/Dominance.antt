@@ -8,13 +8,13 @@ use Prim.Native.Nat.{ℕ, zero, suc, _+_, _-_, _^_, _≤_, _<_}
 use native.Mathlib.Nat.{eq-or-lt-of-le, le-of-suc-le-suc, not-suc-le-zero}
 use native.Mathlib.Omega.{arith}
 use lib.Dec.{eqb, leb, lit<}
-use lib.IntN.{ℤ, pos, negsuc, natAbs, _+ℤ_, _-ℤ_}
+use lib.IntN.{ℤ, pos, negsuc, natAbs, negℤ, _+ℤ_, _-ℤ_, +ℤ-idl}
 use lib.ListN.{length, getD}
 use lib.Signed.{_≤ℤ_, leZ-yes}
 use borrow.Author.Tests.{le-leb, eqb-true, eq-eqb}
 use Rattle.integer.specs.Parts.{int, nat, _⊕_, _⊖_}
-use Rattle.integer.proofs.Parts.{abs!, abs-both, le?, whole}
-use Rattle.integer.proofs.Laws.{≤ℤ-trans, ≤ℤ-of-≡}
+use Rattle.integer.proofs.Parts.{abs!, le?, whole}
+use Rattle.integer.proofs.Laws.{abs-neg, ≤ℤ-trans, ≤ℤ-of-≡}
 use Rattle.gradient.specs.Vector.{zipWith, sum}
 use Rattle.gradient.specs.Index.{sumN, allTo}
 use Rattle.gradient.specs.Problem.{F}
@@ -40,10 +40,7 @@ sumN-but-one a b i (suc n) h k =
 
 -- ---- a row of M
 neg-abs : (h : ℤ) → natAbs (pos 0 -ℤ h) ≡ natAbs h
-neg-abs h =
-    let a = abs-both (nat 0 ⊖ int h) in
-    let b = abs-both (int h) in
-    omega (arith, abs! (nat 0 ⊖ int h) {n = natAbs h} (omega arith) (omega arith), abs! (int h) {n = natAbs (pos 0 -ℤ h)} (omega arith) (omega arith))
+neg-abs h = ap natAbs (+ℤ-idl (negℤ h)) ∙ abs-neg h
 
 -- the diagonal: m ≤ h − o and h + o ≤ f
 diagonal : (f m o : ℕ) (h : ℤ) → pos m ≤ℤ (h -ℤ pos o) → (h +ℤ pos o) ≤ℤ pos f → o + natAbs (pos f -ℤ h) + m ≤ f

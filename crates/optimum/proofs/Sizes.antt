@@ -110,8 +110,8 @@ module _ (p : Problem) (inputs zs : List ℤ) (k : T (inputsWithin p inputs)) (i
         row-sums = row-running;
         linear-sums = linear-running;
         step = rw (step-whole inputs zs r) (omega (arith, abs-sub (total (products (r .row) zs)) (exactLinear inputs r), step-size, scaled-top));
-        lower = rw (abs-mul (r .lower) (pos (F p * 1))) (omega (arith, scaled (natAbs (r .lower)) (c .lower-word)));
-        upper = rw (abs-mul (r .upper) (pos (F p * 1))) (omega (arith, scaled (natAbs (r .upper)) (c .upper-word)));
+        lower = rw (abs-mul (r .lower) (pos (F p))) (omega (arith, scaled (natAbs (r .lower)) (c .lower-word)));
+        upper = rw (abs-mul (r .upper) (pos (F p))) (omega (arith, scaled (natAbs (r .upper)) (c .upper-word)));
         command = rw (abs-mul (pos (F p)) z) (omega (arith, scaled (natAbs z) (le-trans (inside-magnitude j) (magnitude-most p s r c))));
         apart = omega (arith, difference-width p inputs zs r z j, mul-le-mul-left (F p) (width-fits p s r c), mul-le-mul-right (2 ^ 32 - 1) (F-most p s));
       }

@@ -64,8 +64,8 @@ pub record StepIn64 (p : Problem) (inputs zs : List ℤ) (r : Command) (z : ℤ)
   pub row-sums : RunningSums (products (r .row) zs)
   pub linear-sums : RunningSums (products (r .gains) inputs)
   pub step : In64 (gradientStep inputs 1 zs r)
-  pub lower : In64 (r .lower *ℤ pos (F p * 1))
-  pub upper : In64 (r .upper *ℤ pos (F p * 1))
+  pub lower : In64 (r .lower *ℤ pos (F p))
+  pub upper : In64 (r .upper *ℤ pos (F p))
   pub command : In64 (pos (F p) *ℤ z)
   pub apart : difference p inputs zs r z < 2 ^ 63
 
