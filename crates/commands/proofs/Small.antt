@@ -6,12 +6,10 @@ use native.Mathlib.Omega.{arith}
 use lib.ListN.{getD}
 use lib.IntN.{ℤ, pos, natAbs, _*ℤ_}
 use lib.Pow.{pow-pos, pow-mono}
-use Rattle.integer.specs.Parts.{int}
-use Rattle.integer.specs.Round.{floor, ceil, clamp}
-use Rattle.integer.proofs.Parts.{abs!, abs-both, whole}
+use Rattle.integer.specs.Round.{floor, ceil}
 use Rattle.integer.proofs.Laws.{abs-mul}
 use Rattle.integer.proofs.Floor.{floor-abs, ceil-least, ceil-most}
-use Rattle.integer.proofs.Clamping.{Clamped, raised, lowered, kept, clamped}
+use Rattle.integer.proofs.Clamping.{clamp-most}
 use Rattle.array.specs.Arrays.{Filled, WordsTo}
 use Rattle.commands.specs.declared.CommandTerms.{CommandTerms}
 use Rattle.commands.specs.Steps.{unclampedAt, zAt, Fitting}
@@ -23,18 +21,7 @@ divided-size s b h k =
     let l : natAbs s ≤ 2 ^ 63 = omega arith in
     omega (arith, floor-abs s (pow-pos b) l)
 
--- a clamped number is no larger than the limits
-pub clamp-most : (lower upper t : ℤ) {k : ℕ} → natAbs lower ≤ k → natAbs upper ≤ k → natAbs (clamp lower upper t) ≤ k
-clamp-most lower upper t {k} h l = small (clamped lower upper t)
-  where
-    small : {z : ℤ} → Clamped lower upper t z → natAbs z ≤ k
-    small {z} (raised p e) = rw e h
-    small {z} (lowered p e) = rw e l
-    small {z} (kept p q e) =
-        let a = abs-both (int lower) in
-        let b = abs-both (int upper) in
-        abs! (int z) (omega (arith, whole)) (omega (arith, whole))
-
+-- a new z is a word
 pub z-words : (m : List (List ℤ)) {t : CommandTerms} (y : List ℤ) {r : List ℤ} → Fitting t → Filled (pos 0) (t .n) (zAt m t y) r → WordsTo (t .n) r
 unfolding zAt
 z-words m {t} y f r i h =

@@ -16,10 +16,9 @@ use Rattle.gradient.proofs.Tests.{of-true}
 use Rattle.image.specs.declared.Sizes.{Sizes}
 use Rattle.image.specs.declared.Input.{Input}
 use Rattle.image.specs.declared.Input.the-variants.{State, Target}
-use Rattle.image.specs.Order.{bufferNumber}
 use Rattle.image.specs.Sizes.{commandCount, inputCount}
 use Rattle.image.specs.Layout.{sizesOf, problemAt, problemOf, limitsOf}
-use Rattle.image.proofs.Ordering.{passed, both, none}
+use Rattle.image.proofs.Ordering.{passed, both, none, buffer-length}
 use Rattle.interface.specs.Tables.{imageNumber}
 use Rattle.interface.specs.Calls.{valuesOf, inputsOf, startOf, valuesWithin, inputPasses, callNumber, solvableNumber, answerLength, solveNumber, coldNumber}
 use Rattle.interface.specs.Accepted.{Solvable}
@@ -72,10 +71,6 @@ solvable image state target start e =
 pub solvable-image : (image state target start : List ℕ) → solvableNumber image state target start ≡ 0 → imageNumber image ≡ 0
 unfolding solvableNumber
 solvable-image image state target start e = none (imageNumber image) _ e .0
-
--- number 0 of a buffer: its length
-buffer-length : (size room : ℕ) → bufferNumber size room ≡ 0 → room ≡ size
-buffer-length size room e = eqb-true _ _ (passed (eqb room size) 15 _ (lit< tt) e .0)
 
 -- number 0 of a solve
 pub accepted-solve : (image state target start : List ℕ) (room : ℕ) → solveNumber image state target start room ≡ 0

@@ -27,8 +27,10 @@ use Rattle.image.specs.Layout.{sizesOf, costAt, entryOf, entryAt, commandAt, pr
 use Rattle.image.specs.Checks.{headNumber, bodyNumber}
 use Rattle.image.proofs.Ordering.{none, passed, both}
 use Rattle.interface.specs.Tables.{orderTest, stopTest, symmetryTest, othersAt, marginAt, totalAt, marginTest, totalTest, distanceGiven, leastMargin, marginOf, tablesNumber, imageNumber}
-use Rattle.interface.specs.Accepted.{Dominant}
+use Rattle.interface.specs.Calls.{solvableNumber}
+use Rattle.interface.specs.Accepted.{Solvable, Dominant}
 use Rattle.interface.proofs.Accept.{head-whole, commands-length, command-at, row-length}
+use Rattle.interface.proofs.Demand.{solvable, solvable-image}
 use Rattle.interface.proofs.Extremes.{margins-least, least-below}
 
 -- ---- two sums whose terms differ at i alone
@@ -154,3 +156,7 @@ unfolding imageNumber
 accepted-dominant s e =
     let a = none (headNumber s) _ e in
     dominant s (head-whole s (a .0) .sizes .n-low) (nine-ten (sizesOf s) s (none (bodyNumber (sizesOf s) s) (tablesNumber (sizesOf s) s) (a .1) .1))
+
+-- what number 0 of a solve gives but for its buffer: all that its code asks, 9 and 10 among it
+pub solvable-dominant : (image state target start : List ℕ) → solvableNumber image state target start ≡ 0 → Solvable image state target start × Dominant image
+solvable-dominant image state target start e = (solvable image state target start e, accepted-dominant image (solvable-image image state target start e))

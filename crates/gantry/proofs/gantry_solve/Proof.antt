@@ -1,14 +1,10 @@
 -- `gantry::gantry_solve` meets its contract; the guarantee is demand 3 and request 8, of the answer's bytes. Assumes nothing.
-use mathlib.Core.Path.{_≡_, sym, subst, _∙_}
-use mathlib.Core.List.{List}
-use Prim.Native.Nat.{ℕ}
+use mathlib.Core.Path.{sym, subst, _∙_}
 use lib.ListN.{length}
 use borrow.Author.Tests.{eq-eqb, ne-eqb}
-use Rattle.interface.specs.Calls.{solvableNumber}
-use Rattle.interface.specs.Accepted.{Solvable, Dominant}
 use Rattle.interface.specs.Demand.{Guarantee}
-use Rattle.interface.proofs.Demand.{solvable, solvable-image, accepted-solve}
-use Rattle.interface.proofs.Dominance.{accepted-dominant}
+use Rattle.interface.proofs.Demand.{accepted-solve}
+use Rattle.interface.proofs.Dominance.{solvable-dominant}
 use Rattle.interface.proofs.Guaranteed.{guaranteed}
 use borrow.Author.Needs.{needs}
 use Rattle.calls.proofs.solve_number.Reads as solve-number-reads
@@ -18,10 +14,6 @@ use Rattle.gantry.proofs.gantry_solve.Tie as tie
 use Rattle.gantry.proofs.gantry_solve.Reads as reads
 use Rattle.gantry.proofs.gantry_solve.Lts as lts
 
--- what number 0 gives: all that a solve asks but its buffer, 9 and 10 among it
-met : (image state target start : List ℕ) → solvableNumber image state target start ≡ 0 → Solvable image state target start × Dominant image
-met image state target start e = (solvable image state target start e, accepted-dominant image (solvable-image image state target start e))
-
 solve-number-requires : tie.Need-solve-number-requires
 solve-number-requires c κs = search needs
 
@@ -30,7 +22,7 @@ solve-requires c κs =
     let a = c .before .before .before .before .before .before .before .before .args in
     let k = c .before .before .solve-number in
     let e = accepted-solve (a .image .now) (a .state .now) (a .target .now) (a .start .now) (length (a .answer .now)) (sym (k .ensures) ∙ c .before .if1 .taken) in
-    (met (a .image .now) (a .state .now) (a .target .now) (a .start .now) (e .0), e .1)
+    (solvable-dominant (a .image .now) (a .state .now) (a .target .now) (a .start .now) (e .0), e .1)
 
 same-length : tie.Need-same-length
 same-length c = search needs
@@ -41,7 +33,7 @@ returns c =
     let k = c .before .before .before .before .before .solve-number in
     let e = c .before .before .solve .ensures in
     let z = c .before .before .before .before .if1 .taken in
-    let s = met (a .image .now) (a .state .now) (a .target .now) (a .start .now) (accepted-solve (a .image .now) (a .state .now) (a .target .now) (a .start .now) (length (a .answer .now)) (sym (k .ensures) ∙ z) .0) in
+    let s = solvable-dominant (a .image .now) (a .state .now) (a .target .now) (a .start .now) (accepted-solve (a .image .now) (a .state .now) (a .target .now) (a .start .now) (length (a .answer .now)) (sym (k .ensures) ∙ z) .0) in
     (k .ensures, (rw (eq-eqb (k .result) 0 z) e, λ _. subst (Guarantee (a .image .now) (a .state .now) (a .target .now) (a .start .now)) (sym e) (guaranteed (a .image .now) (a .state .now) (a .target .now) (a .start .now) (s .0) (s .1))))
 
 returns-2 : tie.Need-returns-2
