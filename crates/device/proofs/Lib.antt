@@ -1,0 +1,2 @@
+-- The theorems on every run.
+pub mod Runs

@@ -1,0 +1,8 @@
+-- The laws of a drive's bytes.
+pub mod Accept
+pub mod Forward
+pub mod Next
+pub mod Held
+pub mod Step
+pub mod Run
+pub mod Parts
