@@ -5,9 +5,10 @@
  * order of the checks. That each call does this, and nothing undefined on the way, is proved; docs/PROOFS.md says by
  * which theorems.
  *
- * What the caller owes: each pointer is valid for its length (for a length of 0 any pointer that is not null will do), the
- * buffer that is written overlaps no other buffer of the call, and no other thread writes to a buffer during the call.
- * The calls keep no state, use no heap, and always return. They do not recurse: no routine of the library calls itself,
+ * What the caller owes: each pointer is valid for its length (for a length of 0 any pointer that is not null will do), a
+ * buffer that is written overlaps no other buffer of the call, and no other thread writes to a buffer during the call, nor
+ * reads one that is written. The library keeps nothing between two calls but what stands in a drive, a buffer of the
+ * caller's; it uses no heap, and every call returns. They do not recurse: no routine of the library calls itself,
  * directly or through others, and none calls through a pointer. So the stack of a call has a bound for all inputs:
  * GANTRY_STACK_BYTES, below.
  */
@@ -35,6 +36,10 @@ extern "C" {
 #define GANTRY_TARGET_BYTES(nr) (4 * (size_t)(nr))
 #define GANTRY_START_BYTES(n) (4 * (size_t)(n))
 #define GANTRY_ANSWER_BYTES(n) (8 * (size_t)(n) + 8)
+/* What a commit writes: the commands of one step. */
+#define GANTRY_COMMANDS_BYTES(nu) (4 * (size_t)(nu))
+/* A drive, whatever its image. */
+#define GANTRY_DRIVE_BYTES 2484
 /* Large enough for every image and every page: n 16, nx 12, nr 4. */
 #define GANTRY_MAX_IMAGE_BYTES GANTRY_IMAGE_BYTES(GANTRY_MAX_COMMANDS, GANTRY_MAX_STATES, GANTRY_MAX_TARGETS)
 #define GANTRY_MAX_PAGE_BYTES GANTRY_PAGE_BYTES(GANTRY_MAX_COMMANDS, GANTRY_MAX_STATES, GANTRY_MAX_TARGETS)
@@ -60,9 +65,10 @@ enum gantry_number {
     GANTRY_NO_HEADROOM = 12,   /* an intermediate value could leave the word */
     GANTRY_BAD_STATE = 13,     /* not nx words, or a value beyond its limit */
     GANTRY_BAD_START = 14,     /* not n words, or a command outside its limits */
-    GANTRY_BAD_BUFFER = 15,    /* the buffer to be written has another length than the answer */
+    GANTRY_BAD_BUFFER = 15,    /* the buffer to be written, a drive among them, has another length than what is due */
     GANTRY_BAD_TARGET = 16,    /* not nr words, or a value beyond its limit; tested directly after 13 */
-    GANTRY_NO_STOP = 17        /* a command's low limit is above 0 or its high limit below 0; tested directly after 7 */
+    GANTRY_NO_STOP = 17,       /* a command's low limit is above 0 or its high limit below 0; tested directly after 7 */
+    GANTRY_NO_ANSWER = 18      /* a commit without a waiting answer */
 };
 
 /* Reads a design sheet and writes its image. image_len must be the image's exact length (15), which is known from the
@@ -99,6 +105,32 @@ uint32_t gantry_cold_start(const uint8_t *image, size_t image_len, uint8_t *star
 uint32_t gantry_solve(const uint8_t *image, size_t image_len, const uint8_t *state, size_t state_len,
                       const uint8_t *target, size_t target_len, const uint8_t *start, size_t start_len,
                       uint8_t *answer, size_t answer_len);
+
+/* ---- drives: ask first, then commit
+ *
+ * A drive is a buffer of GANTRY_DRIVE_BYTES that the caller keeps: it holds an image, a start, and perhaps a waiting answer.
+ * Its bytes are the library's: make writes all of them, ask and commit go on from there, and nobody else should write them.
+ * It holds no pointer, so it may be copied, stored and moved; a copy is a drive of its own. Every byte string is a drive
+ * with a defined outcome, proved too: one that was damaged is refused by the checks of the image and start that it then
+ * holds, or answered from them. */
+
+/* Makes a drive of an image, tested as by a solve up to 12: it holds the image and a start of zeros, and no answer waits.
+ * All of its bytes are written, whatever it was before. drive_len must be GANTRY_DRIVE_BYTES (15). Numbers: 0, 3, 5 to 12,
+ * 15, 17. The image is copied: its own buffer is no longer needed. */
+uint32_t gantry_make(const uint8_t *image, size_t image_len, uint8_t *drive, size_t drive_len);
+
+/* Solves on the drive's image from its start: number, answer and what is promised of it are those of gantry_solve with this
+ * image and start, behind 15 for the drive's length. With 0 the answer, GANTRY_ANSWER_BYTES, is written and kept as the
+ * waiting one, in place of an earlier one; the start stays, so asks may be repeated. Numbers of a drive that these calls
+ * alone have written: 0, 13, 15, 16; of a damaged one also 3, 5 to 12, 14, 17. */
+uint32_t gantry_ask(uint8_t *drive, size_t drive_len, const uint8_t *state, size_t state_len, const uint8_t *target,
+                    size_t target_len, uint8_t *answer, size_t answer_len);
+
+/* Writes the first nu commands of the waiting answer, GANTRY_COMMANDS_BYTES, for the motors. The rest moves one step
+ * forward, the last step is repeated, and each is held to the limits of its new step: that is the drive's next start, and
+ * the answer no longer waits. Numbers of a drive that these calls alone have written: 0, 15, 18; of a damaged one also 3
+ * and 6. Tested: 15 for the drive's length, the held image's length and sizes (6, 3, 6), 15 for commands_len, 18. */
+uint32_t gantry_commit(uint8_t *drive, size_t drive_len, uint8_t *commands, size_t commands_len);
 
 #ifdef __cplusplus
 }

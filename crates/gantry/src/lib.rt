@@ -1,4 +1,4 @@
-// The calls that the drive's C firmware makes: numbers and byte buffers, no state.
+// The calls that the drive's C firmware makes: numbers and byte buffers. What is kept between two calls the caller lends.
 ghost use mathlib.Core.Path.{_≡_};
 ghost use mathlib.Core.Bool.{cond};
 ghost use lib.Dec.{eqb};
@@ -7,6 +7,8 @@ ghost use Rattle.interface.specs.Calls.{coldNumber, coldAnswer, solveNumber, so
 ghost use Rattle.interface.specs.Demand.{Guarantee};
 ghost use Rattle.intake.specs.Intake.{intakeNumber, intakeImage};
 ghost use Rattle.design_page.specs.Page.{pageNumber, sheetPage};
+ghost use Rattle.drive.specs.Layout.{heldImage, heldStart};
+ghost use Rattle.drive.specs.Calls.{makeNumber, makeDrive, askNumber, askAnswer, askDrive, commitNumber, commitAnswer, commitDrive};
 
 // Reads a design sheet and writes its image.
 #[no_mangle]
@@ -57,4 +59,39 @@ pub extern "C" fn gantry_solve(
         solve::solve(image, state, target, start, answer);
     }
     number
+}
+
+// Makes a drive of an image: it holds the image and a start of zeros, and no answer waits.
+#[no_mangle]
+pub extern "C" fn gantry_make(image: &[u8], drive: &mut [u8]) -> u32
+    ensures number { λ r. ⌜ r ≡ makeNumber (now (image .entry)) (length (now (drive .entry))) ⌝ }
+    ensures drive { λ r. ⌜ now (drive .exit) ≡ cond (eqb r 0) (makeDrive (now (image .entry))) (now (drive .entry)) ⌝ }
+{
+    drive_make::make(image, drive)
+}
+
+// Solves on a drive's image from its start, writes the answer, and keeps it as the waiting one.
+#[no_mangle]
+pub extern "C" fn gantry_ask(
+    drive: &mut [u8],
+    state: &[u8],
+    target: &[u8],
+    answer: &mut [u8],
+) -> u32
+    ensures number { λ r. ⌜ r ≡ askNumber (now (drive .entry)) (now (state .entry)) (now (target .entry)) (length (now (answer .entry))) ⌝ }
+    ensures answer { λ r. ⌜ now (answer .exit) ≡ cond (eqb r 0) (askAnswer (now (drive .entry)) (now (state .entry)) (now (target .entry))) (now (answer .entry)) ⌝ }
+    ensures drive { λ r. ⌜ now (drive .exit) ≡ cond (eqb r 0) (askDrive (now (drive .entry)) (now (state .entry)) (now (target .entry))) (now (drive .entry)) ⌝ }
+    ensures guarantee { λ r. ⌜ (r ≡ 0 → Guarantee (heldImage (now (drive .entry))) (now (state .entry)) (now (target .entry)) (heldStart (now (drive .entry))) (now (answer .exit))) ⌝ }
+{
+    drive_ask::ask(drive, state, target, answer)
+}
+
+// Writes the waiting answer's first commands, and moves the rest on as the drive's next start.
+#[no_mangle]
+pub extern "C" fn gantry_commit(drive: &mut [u8], commands: &mut [u8]) -> u32
+    ensures number { λ r. ⌜ r ≡ commitNumber (now (drive .entry)) (length (now (commands .entry))) ⌝ }
+    ensures commands { λ r. ⌜ now (commands .exit) ≡ cond (eqb r 0) (commitAnswer (now (drive .entry))) (now (commands .entry)) ⌝ }
+    ensures drive { λ r. ⌜ now (drive .exit) ≡ cond (eqb r 0) (commitDrive (now (drive .entry))) (now (drive .entry)) ⌝ }
+{
+    drive_commit::commit(drive, commands)
 }

@@ -1,0 +1,88 @@
+-- `drive_ask::ask` meets its contract; the guarantee is demand 3 and request 8, of the answer's bytes. Assumes nothing.
+use native.Mathlib.Omega.{arith}
+use mathlib.Core.Path.{sym, ap, subst, _∙_}
+use mathlib.Core.List.{List}
+use Prim.Native.Nat.{ℕ}
+use lib.ListN.{length}
+use borrow.Author.Tests.{eq-eqb, ne-eqb}
+use Rattle.word.specs.Buffer.{putAt}
+use Rattle.word.specs.Word.{bytesOf}
+use Rattle.interface.specs.Demand.{Guarantee}
+use Rattle.interface.proofs.Guaranteed.{guaranteed}
+use Rattle.drive.specs.Layout.{answerPlace, waitingPlace, heldImage, heldStart}
+use Rattle.drive.specs.Calls.{askAnswer, askDrive}
+use Rattle.drive.specs.Parts.{Askable}
+use Rattle.drive.proofs.Accept.{askable}
+use borrow.Author.Needs.{needs}
+use Rattle.drive_ask.proofs.ask.Statement.{statement}
+use Rattle.drive_ask.proofs.ask.Tie as tie
+use Rattle.drive_ask.proofs.ask.Reads as reads
+use Rattle.drive_ask.proofs.ask.Lts as lts
+use Rattle.drive_ask.proofs.ask_number.Reads as ask-number-reads
+use Rattle.drive_ask.proofs.held_solve.Reads as held-solve-reads
+use Rattle.drive_ask.proofs.keep.Reads as keep-reads
+
+module _ (c : tie.Then1) where
+  abbrev start : tie.Start
+  start = c .before .before .before .before .before .before .before
+
+  passes : Askable (start .args .drive .now) (start .args .state .now) (start .args .target .now) (length (start .args .answer .now))
+  passes = askable (start .args .drive .now) (start .args .state .now) (start .args .target .now) _ (sym (c .before .ask-number .ensures) ∙ c .if1 .taken)
+
+ask-number-requires : tie.Need-ask-number-requires
+ask-number-requires c κs = search needs
+
+held-solve-requires : tie.Need-held-solve-requires
+held-solve-requires c κs = passes (c .before .before)
+
+keep-requires : tie.Need-keep-requires
+keep-requires c κs =
+    let t = c .before .before .before .before .before .before .before in
+    let k = passes t in
+    (k .size, omega (arith, k .room-is, k .solves .accepted .whole .sizes .n-high))
+
+same-length : tie.Need-same-length
+same-length c = search needs
+
+same-length-2 : tie.Need-same-length-2
+same-length-2 c = search needs
+
+returns : tie.Need-returns
+unfolding askDrive askAnswer
+returns c =
+    let t = c .before .before .before .before .before .before .before .before .before .before in
+    let a = start t .args in
+    let n = t .before .ask-number in
+    let e = eq-eqb (n .result) 0 (t .if1 .taken) in
+    let w = c .before .before .before .before .before .before .before .held-solve .ensures in (
+      n .ensures,
+      (
+        rw e w,
+        (
+          rw e (c .before .before .keep .ensures ∙ ap (λ (x : List ℕ). putAt (putAt (a .drive .now) answerPlace x) waitingPlace (bytesOf 1)) w),
+          λ _. subst (Guarantee (heldImage (a .drive .now)) (a .state .now) (a .target .now) (heldStart (a .drive .now))) (sym w) (guaranteed (heldImage (a .drive .now)) (a .state .now) (a .target .now) (heldStart (a .drive .now)) (passes t .solves) (passes t .dominant)),
+        ),
+      ),
+    )
+
+same-length-3 : tie.Need-same-length-3
+same-length-3 c = search needs
+
+returns-2 : tie.Need-returns-2
+returns-2 c =
+    let k = c .before .ask-number in
+    let e = ne-eqb (k .result) 0 (c .if1 .left) in
+    (k .ensures, (rw e, (rw e, λ z. absurd (c .if1 .left z))))
+
+pub ask-spec : {M : Type 1} → statement M
+ask-spec =
+    tie.close
+    (tie.spec
+    ask-number-requires
+    held-solve-requires
+    keep-requires
+    same-length
+    same-length-2
+    returns
+    same-length-3
+    returns-2)

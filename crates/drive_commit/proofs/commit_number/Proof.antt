@@ -1,0 +1,86 @@
+-- `drive_commit::commit_number` meets its contract. Assumes nothing.
+use native.Mathlib.Omega.{arith}
+use mathlib.Core.Path.{_≡_, sym, ap, _∙_}
+use Prim.Native.Nat.{ℕ, _*_}
+use borrow.Author.Tests.{eq-eqb, ne-eqb}
+use Rattle.image.specs.declared.Sizes.{Sizes}
+use Rattle.image.specs.Layout.{sizesOf}
+use Rattle.image.proofs.Ordering.{refused, onward}
+use Rattle.interface.proofs.Accept.{whole-of}
+use Rattle.drive.specs.Layout.{heldImage, heldWaiting}
+use Rattle.drive.specs.Calls.{commitNumber}
+use Rattle.drive.specs.Parts.{Found}
+use Rattle.drive.proofs.Accept.{found}
+use borrow.Author.Needs.{needs}
+use Rattle.drive_commit.proofs.commit_number.Statement.{statement}
+use Rattle.drive_commit.proofs.commit_number.Tie as tie
+use Rattle.drive_commit.proofs.commit_number.Reads as reads
+use Rattle.drive_commit.proofs.commit_number.Lts as lts
+use Rattle.drive_parts.proofs.held_sizes.Reads as held-sizes-reads
+use Rattle.drive_parts.proofs.parts_number.Reads as parts-number-reads
+use Rattle.word.proofs.nat_at.Reads as nat-at-reads
+
+module _ (c : tie.Else1) where
+  abbrev start : tie.Start
+  start = c .before .before .before
+
+  holds : Found (start .args .drive .now)
+  holds = found (start .args .drive .now) (sym (c .before .parts-number .ensures) ∙ c .if1 .left)
+
+nu-is : (c : tie.After-held-sizes) → c .held-sizes .result .nu ≡ sizesOf (heldImage (start (c .before) .args .drive .now)) .nu
+nu-is c = ap (λ (z : Sizes). z .nu) (c .held-sizes .ensures)
+
+parts-number-requires : tie.Need-parts-number-requires
+parts-number-requires c κs = search needs
+
+returns : tie.Need-returns
+unfolding commitNumber
+returns c = refused _ _ _ (c .before .parts-number .ensures) (c .if1 .taken)
+
+held-sizes-requires : tie.Need-held-sizes-requires
+held-sizes-requires c κs = holds c
+
+mul-if2 : tie.Need-mul-if2
+mul-if2 c = record { fits = omega (arith, whole-of (c .before .held-sizes .ensures) (holds (c .before .before) .whole) .sizes) }
+
+returns-2 : tie.Need-returns-2
+unfolding commitNumber
+returns-2 c =
+    let h = c .before .before in
+    let e = h .before in
+    let a = start e .args in
+    onward _ _ _ _ (e .before .parts-number .ensures) (e .if1 .left) (rw (ne-eqb (a .room) (4 * sizesOf (heldImage (a .drive .now)) .nu) (λ q. c .if2 .taken (q ∙ ap (λ (k : ℕ). 4 * k) (sym (nu-is h))))))
+
+nat-at-requires : tie.Need-nat-at-requires
+nat-at-requires c κs = omega (arith, holds (c .before .before .before) .size)
+
+returns-3 : tie.Need-returns-3
+unfolding commitNumber heldWaiting
+returns-3 c =
+    let h = c .before .before .before .before in
+    let e = h .before in
+    let a = start e .args in
+    let n = c .before .nat-at in
+    onward _ _ _ _ (e .before .parts-number .ensures) (e .if1 .left) (rw (eq-eqb (a .room) (4 * sizesOf (heldImage (a .drive .now)) .nu) (omega (arith, nu-is h)), eq-eqb (heldWaiting (a .drive .now)) 0 (sym (n .ensures .0) ∙ c .if3 .taken)))
+
+returns-4 : tie.Need-returns-4
+unfolding commitNumber heldWaiting
+returns-4 c =
+    let h = c .before .before .before .before in
+    let e = h .before in
+    let a = start e .args in
+    let n = c .before .nat-at in
+    onward _ _ _ _ (e .before .parts-number .ensures) (e .if1 .left) (rw (eq-eqb (a .room) (4 * sizesOf (heldImage (a .drive .now)) .nu) (omega (arith, nu-is h)), ne-eqb (heldWaiting (a .drive .now)) 0 (λ q. c .if3 .left (n .ensures .0 ∙ q))))
+
+pub commit-number-spec : {M : Type 1} → statement M
+commit-number-spec =
+    tie.close
+    (tie.spec
+    parts-number-requires
+    returns
+    held-sizes-requires
+    mul-if2
+    returns-2
+    nat-at-requires
+    returns-3
+    returns-4)
