@@ -2,12 +2,12 @@
 -- line is one case; `holds` says what is computed of it, over the definitions that the calls' promises cite. Assumes nothing.
 use mathlib.Core.Bool.{Bool, true, _&&_}
 use mathlib.Core.List.{List, [], _∷_, _++_, map}
-use Prim.Native.Nat.{ℕ, suc, _*_}
+use Prim.Native.Nat.{ℕ, suc, _+_, _*_}
 use Prim.Native.String.{String}
 use lib.Dec.{eqb}
 use lib.IntN.{ℤ, pos, negℤ, _*ℤ_}
 use lib.Ieee.{binary64, ofBits}
-use lib.ListN.{length, take, drop}
+use lib.ListN.{length, take, drop, replicate}
 use Rattle.word.specs.Ascii.{ascii}
 use Rattle.word.specs.Word.{wordsOut, patternBytes}
 use Rattle.double.specs.Double.{convertedNumber}
@@ -21,6 +21,11 @@ use Rattle.image.specs.Layout.{problemOf}
 use Rattle.interface.specs.Tables.{eqZ, imageNumber}
 use Rattle.interface.specs.Calls.{coldAnswer, solveNumber, solveAnswer}
 use Rattle.interface.specs.Demand.{withSweeps}
+use Rattle.device.specs.Call.{Call, make, ask, commit}
+use Rattle.device.specs.Run.{Event}
+use Rattle.drive.specs.Layout.{driveLength, heldStart}
+use Rattle.drive.specs.Calls.{makeDrive}
+use Rattle.drive.specs.Run.{numberOn, writtenBy, afterCall}
 use Rattle.frame.specs.Frame.{convertedWord, wordOf}
 use Rattle.sheet.specs.Sample.{changed, formerLines, lines, mixedLines, stepLines, targetLines, text}
 use Rattle.intake.specs.Intake.{intakeImage, intakeNumber}
@@ -49,6 +54,8 @@ pub data Case : Type 0 where
   prints : List ℕ → ℕ → String → Case
   -- the call for a sheet's page, with a buffer of so many bytes, has a number
   pages : List ℕ → ℕ → ℕ → Case
+  -- calls on the bytes of a drive, the first one first, have their numbers and write their bytes, and leave a held start
+  runs : List ℕ → List Event → List ℤ → Case
 
 -- "all have b 4, W 8": S's sizes
 abbrev sizes : Sizes
@@ -89,6 +96,30 @@ solvesFrom s image x t (answer ∷ later) =
     && every2 eqb (answerOf (withSweeps s image) x t) answer
     && solvesFrom (suc s) image x t later
 
+-- ---- calls on a drive
+-- a buffer of `size` bytes that is no drive yet
+abbrev buffer : ℕ → List ℕ
+buffer size = replicate size 255
+
+abbrev makes : List ℕ → Event
+makes image = record { call = make image; number = 0; answer = [] }
+
+-- an ask with a state of one value answers commands, bounds and D
+abbrev asks : ℤ → List ℤ → List ℕ → ℕ → Event
+asks x zs es d = record { call = ask (wordsOut (x ∷ [])) [] (8 * length zs + 8); number = 0; answer = wordsOut zs ++ wordsOut (map pos es) ++ patternBytes d }
+
+-- a commit issues commands
+abbrev commits : List ℤ → Event
+commits zs = record { call = commit (4 * length zs); number = 0; answer = wordsOut zs }
+
+abbrev refuses : Call → ℕ → Event
+refuses c number = record { call = c; number = number; answer = [] }
+
+-- the drive after the calls, where each has its number and its bytes
+unfoldable pub runsFrom : List ℕ → List Event → List ℤ → Bool
+runsFrom d [] start = every2 eqb (heldStart d) (wordsOut start)
+runsFrom d (e ∷ later) start = eqb (numberOn d (e .call)) (e .number) && every2 eqb (writtenBy d (e .call)) (e .answer) && runsFrom (afterCall d (e .call)) later start
+
 unfoldable pub holds : Case → Bool
 holds (solves image x t zss ess ds) =
     eqb (length zss) (length ess) && eqb (length zss) (length ds) && solvesFrom 1 image x t (answersOf zss ess ds)
@@ -104,6 +135,7 @@ holds (writes sheet image) = eqb (intakeNumber sheet (length image)) 0 && every2
 holds (labels drive state target label) = every2 eqb (labelText drive state target) label
 holds (prints sheet i line) = every2 eqb (take 44 (drop (44 * i) (sheetPage sheet))) (textLine line)
 holds (pages sheet room n) = eqb (pageNumber sheet room) n
+holds (runs d events start) = runsFrom d events start
 
 -- ---- the images
 -- S with a step factor, limits −l and l, a state limit
@@ -175,6 +207,18 @@ wide =
     wordsOut
     (map pos (1 ∷ 1 ∷ 12 ∷ 4 ∷ 32 ∷ 3 ∷ 4 ∷ 0 ∷ 8 ∷ [])
     ++ (largest 12 ++ ((minus 20 ∷ pos 20 ∷ pos 0 ∷ []) ++ (largest 12 ++ (largest 4 ++ largest 4)))))
+
+-- one motor, two steps, H diagonal, state limit 30: step 0 has S's limits, step 1 twice these
+unfoldable pub widening : List ℕ
+widening =
+    wordsOut (map pos (1 ∷ 2 ∷ 1 ∷ 4 ∷ 8 ∷ 3 ∷ 0 ∷ 0 ∷ 8 ∷ 0 ∷ 0 ∷ 8 ∷ 16 ∷ 16 ∷ []) ++ (minus 20 ∷ minus 40 ∷ map pos (20 ∷ 40 ∷ 0 ∷ 30 ∷ [])))
+
+-- two motors, two steps, H diagonal, Φ 1, 1/2, 1/4, 1/8, all limits −40 and 40, state limit 16
+unfoldable pub paired : List ℕ
+paired =
+    wordsOut
+    (map pos (2 ∷ 2 ∷ 1 ∷ 4 ∷ 8 ∷ 3 ∷ 0 ∷ 0 ∷ 8 ∷ 0 ∷ 0 ∷ 0 ∷ 0 ∷ 8 ∷ 0 ∷ 0 ∷ 0 ∷ 0 ∷ 8 ∷ 0 ∷ 0 ∷ 0 ∷ 0 ∷ 8 ∷ 16 ∷ 8 ∷ 4 ∷ 2 ∷ [])
+    ++ (minus 40 ∷ minus 40 ∷ minus 40 ∷ minus 40 ∷ map pos (40 ∷ 40 ∷ 40 ∷ 40 ∷ 0 ∷ 16 ∷ [])))
 
 -- ---- the table
 unfoldable pub table : List Case
@@ -318,4 +362,48 @@ table =
     ∷ rooms (S 0 20 10) (pos 10) 17 15
     -- a D of 2^48 − 2^28 takes sixteen digits
     ∷ labels (text farLines) (textLine "10000000") [] (textLine "F0000000 00000001 0000FFFFF0000000")
+    -- request 9: S as a drive; 18 before the first ask, and 15 before 18; a refused ask, and a refused make, leave the answer waiting; after
+    -- the commit it is used up
+    ∷ runs (buffer driveLength) (makes (S 0 20 10) ∷ refuses (commit 4) 18 ∷ refuses (commit 8) 15 ∷ []) (pos 0 ∷ [])
+    ∷ runs (buffer driveLength)
+    (makes (S 0 20 10)
+    ∷ asks (pos 10) (minus 18 ∷ []) (3 ∷ []) 2
+    ∷ refuses (ask (wordsOut (pos 11 ∷ [])) [] 16) 13
+    ∷ refuses (ask (wordsOut (pos 10 ∷ [])) (wordsOut (pos 0 ∷ [])) 16) 16
+    ∷ refuses (ask (wordsOut (pos 10 ∷ [])) [] 8) 15
+    ∷ refuses (make (S 0 20 118)) 12
+    ∷ refuses (commit 8) 15
+    ∷ commits (minus 18 ∷ [])
+    ∷ refuses (commit 4) 18
+    ∷ [])
+    (minus 18 ∷ [])
+    -- N 1: the next start is the answer, from which an ask goes on, twice the same; the second of two asks is committed
+    ∷ runs (buffer driveLength)
+    (makes (S 0 20 10)
+    ∷ asks (pos 10) (minus 18 ∷ []) (3 ∷ []) 2
+    ∷ commits (minus 18 ∷ [])
+    ∷ asks (pos 10) (minus 20 ∷ []) (3 ∷ []) 0
+    ∷ asks (pos 10) (minus 20 ∷ []) (3 ∷ []) 0
+    ∷ asks (minus 3) (pos 3 ∷ []) (3 ∷ []) 3
+    ∷ commits (pos 3 ∷ [])
+    ∷ [])
+    (pos 3 ∷ [])
+    -- step 1's −35 moves to step 0 and is held to −20, its new step's low; step 1 is repeated, and the next ask goes on from there
+    ∷ runs (buffer driveLength) (makes widening ∷ asks (pos 20) (minus 20 ∷ minus 35 ∷ []) (3 ∷ 3 ∷ []) 5 ∷ commits (minus 20 ∷ []) ∷ []) (minus 20 ∷ minus 35 ∷ [])
+    ∷ runs (buffer driveLength)
+    (makes widening
+    ∷ asks (pos 20) (minus 20 ∷ minus 35 ∷ []) (3 ∷ 3 ∷ []) 5
+    ∷ commits (minus 20 ∷ [])
+    ∷ asks (pos 20) (minus 20 ∷ minus 40 ∷ []) (3 ∷ 3 ∷ []) 0
+    ∷ [])
+    (minus 20 ∷ minus 35 ∷ [])
+    -- two motors: both commands of step 0 are issued, and those of step 1 move there; a make in between begins anew, from zeros
+    ∷ runs (buffer driveLength) (makes paired ∷ asks (pos 16) (minus 28 ∷ minus 14 ∷ minus 7 ∷ minus 4 ∷ []) (3 ∷ 3 ∷ 3 ∷ 3 ∷ []) 4 ∷ commits (minus 28 ∷ minus 14 ∷ []) ∷ [])
+    (minus 7 ∷ minus 4 ∷ minus 7 ∷ minus 4 ∷ [])
+    ∷ runs (buffer driveLength) (makes widening ∷ asks (pos 20) (minus 20 ∷ minus 35 ∷ []) (3 ∷ 3 ∷ []) 5 ∷ makes paired ∷ refuses (commit 8) 18 ∷ [])
+    (pos 0 ∷ pos 0 ∷ pos 0 ∷ pos 0 ∷ [])
+    -- a drive of another length is 15, of make behind the image's number; bytes that no make wrote are tested as the image that they hold
+    ∷ runs (take 2483 (makeDrive (S 0 20 10))) (refuses (make (S 0 20 10)) 15 ∷ refuses (make []) 6 ∷ refuses (ask [] [] 0) 15 ∷ refuses (commit 4) 15 ∷ []) (pos 0 ∷ [])
+    ∷ runs (buffer driveLength) (refuses (ask [] [] 0) 3 ∷ refuses (commit 4) 3 ∷ []) (tab (λ (i : ℕ). minus 1) 50)
+    ∷ runs (replicate driveLength 0) (refuses (ask [] [] 0) 6 ∷ refuses (commit 4) 6 ∷ []) []
     ∷ []
