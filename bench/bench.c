@@ -1,36 +1,11 @@
 /* One solve of the library beside two plain twins in C, in one run and on the same bytes: the answers are compared, the
  * times printed with their ratios. usage: bench [count]  (count: each side solves each problem once, not timed) */
-#define _POSIX_C_SOURCE 200809L
 #include <stdio.h>
 #include <string.h>
-#include <time.h>
 
-#include "gantry.h"
+#include "problems.h"
 
 enum { REFUSED = 99 }; /* of a twin, which does not number its refusals */
-
-struct problem {
-    int n, nx, nr, b, sweeps;
-    uint8_t image[GANTRY_MAX_IMAGE_BYTES];
-    uint8_t state[GANTRY_STATE_BYTES(GANTRY_MAX_STATES)];
-    uint8_t target[GANTRY_TARGET_BYTES(GANTRY_MAX_TARGETS)];
-    uint8_t start[GANTRY_START_BYTES(GANTRY_MAX_COMMANDS)];
-    size_t image_len;
-};
-
-static void put(uint8_t *at, int64_t value)
-{
-    uint32_t bits = (uint32_t)value;
-    for (int i = 0; i < 4; i++)
-        at[i] = (uint8_t)(bits >> (24 - 8 * i));
-}
-
-static int64_t get(const uint8_t *at)
-{
-    return (int32_t)((uint32_t)at[0] << 24 | (uint32_t)at[1] << 16 | (uint32_t)at[2] << 8 | at[3]);
-}
-
-static int64_t word(const struct problem *p, int index) { return get(p->image + 4 * index); }
 
 /* ---- the twin: the same tests of the tables and the same scheme, plainly, trusting sizes and words */
 static int64_t magnitude(int64_t x) { return x < 0 ? -x : x; }
@@ -240,94 +215,21 @@ static uint32_t early_twin(const struct problem *p, uint8_t *answer)
     return GANTRY_ACCEPTED;
 }
 
-/* ---- problems */
-static uint32_t seed = 12345;
-static int64_t random_word(int64_t most)
-{
-    seed = seed * 1664525u + 1013904223u;
-    return (int64_t)(seed >> 8) % (2 * most + 1) - most;
-}
-
-static void make(struct problem *p, int nu, int steps, int nx, int nr, int b, int sweeps)
-{
-    int n = nu * steps, at = 8 + n * n;
-    int64_t f = 1ll << b;
-    memset(p, 0, sizeof *p);
-    p->n = n, p->nx = nx, p->nr = nr, p->b = b, p->sweeps = sweeps;
-    p->image_len = GANTRY_IMAGE_BYTES(n, nx, nr);
-    int head[8] = {nu, steps, nx, b, 32, sweeps, nr, 0};
-    for (int i = 0; i < 8; i++)
-        put(p->image + 4 * i, head[i]);
-    for (int i = 0; i < n; i++)
-        for (int j = i; j < n; j++) {
-            int64_t h = i == j ? f / 2 : random_word(f / (4 * n));
-            put(p->image + 4 * (8 + i * n + j), h);
-            put(p->image + 4 * (8 + j * n + i), h);
-        }
-    for (int i = 0; i < n * nx; i++)
-        put(p->image + 4 * (at + i), random_word(f));
-    at += n * nx;
-    for (int i = 0; i < n; i++) {
-        int64_t limit = (20 - i / nu) * f; /* a little narrower at each step */
-        put(p->image + 4 * (at + i), -limit);
-        put(p->image + 4 * (at + n + i), limit);
-        put(p->start + 4 * i, random_word(limit));
-    }
-    put(p->image + 4 * (at + 2 * n), f / 2);
-    for (int i = 0; i < nx; i++) {
-        put(p->image + 4 * (at + 2 * n + 1 + i), 4 * f);
-        put(p->state + 4 * i, random_word(4 * f));
-    }
-    at += 2 * n + 1 + nx;
-    for (int i = 0; i < n * nr; i++)
-        put(p->image + 4 * (at + i), random_word(f));
-    for (int i = 0; i < nr; i++) {
-        put(p->image + 4 * (at + n * nr + i), 4 * f);
-        put(p->target + 4 * i, random_word(4 * f));
-    }
-}
-
-/* The slowest known: neither commands nor bounds settle. With the largest step factor the commands swing about zero,
- * each at its own pace, so that a branch on a sign is hard to predict; the last row's bound grows steadily. Where no
- * branch depends on the values, every image of this size that never settles takes as long. */
-static void make_slowest(struct problem *p)
-{
-    int n = 16, limits = 8 + n * n + n * 12, limit = 1 << 28, f = 1 << 20;
-    make(p, 4, 4, 12, 4, 20, 400);
-    memset(p->image + 4 * 8, 0, 4 * (size_t)(n * n));
-    for (int i = 0; i < n; i++) {
-        put(p->image + 4 * (8 + i * n + i), i < n - 1 ? (i + 1) * f / 150 : 2 * f / 3);
-        put(p->image + 4 * (limits + i), -limit);
-        put(p->image + 4 * (limits + n + i), limit);
-        put(p->start + 4 * i, i % 2 ? limit : -limit);
-    }
-    put(p->image + 4 * (limits + 2 * n), f - 1);
-    memset(p->state, 0, sizeof p->state);
-    memset(p->target, 0, sizeof p->target);
-}
-
 /* ---- the sides */
-static uint32_t library(const struct problem *p, uint8_t *answer)
-{
-    return gantry_solve(p->image, p->image_len, p->state, GANTRY_STATE_BYTES(p->nx), p->target,
-                        GANTRY_TARGET_BYTES(p->nr), p->start, GANTRY_START_BYTES(p->n), answer,
-                        GANTRY_ANSWER_BYTES(p->n));
-}
-
 static const struct {
     const char *name;
     uint32_t (*solve)(const struct problem *, uint8_t *answer);
 } sides[] = {{"library", library}, {"twin", twin}, {"early twin", early_twin}};
-enum { SIDES = sizeof sides / sizeof *sides, ANSWER = GANTRY_ANSWER_BYTES(GANTRY_MAX_COMMANDS) };
+enum { SIDES = sizeof sides / sizeof *sides };
 
-static int agree(const char *name, const struct problem *p)
+static int agree(const struct problem *p)
 {
     uint8_t answers[SIDES][ANSWER] = {{0}};
     for (int k = 0; k < SIDES; k++) {
         uint32_t number = sides[k].solve(p, answers[k]);
         if (number != GANTRY_ACCEPTED || memcmp(answers[k], answers[0], GANTRY_ANSWER_BYTES(p->n)) != 0) {
             const char *answer = number == GANTRY_ACCEPTED ? "differs" : "none";
-            printf("%s: %s, number %u, answer %s\n", name, sides[k].name, (unsigned)number, answer);
+            printf("%s: %s, number %u, answer %s\n", p->name, sides[k].name, (unsigned)number, answer);
             return 0;
         }
     }
@@ -335,29 +237,22 @@ static int agree(const char *name, const struct problem *p)
 }
 
 /* noipa: a solve whose answer nobody reads is not left out, and valgrind finds the call by its name. */
-__attribute__((noipa)) static void solve_once(const struct problem *p, int side)
+__attribute__((noipa)) static void call_once(const struct problem *p, int side)
 {
     uint8_t answer[ANSWER];
     sides[side].solve(p, answer);
 }
 
-static double now(void)
-{
-    struct timespec t;
-    clock_gettime(CLOCK_MONOTONIC, &t);
-    return (double)t.tv_sec + 1e-9 * (double)t.tv_nsec;
-}
-
 /* The best of many rounds, in us: what the code takes when nothing disturbs it. The sides take turns, so that each
  * meets the machine at its fastest. */
-static void measure(const struct problem *p, int calls, double *least)
+static void measure(const struct problem *p, double *least)
 {
     for (int r = 0; r < 400; r++)
         for (int k = 0; k < SIDES; k++) {
             double begin = now();
-            for (int c = 0; c < calls; c++)
-                solve_once(p, k);
-            double took = 1e6 * (now() - begin) / calls;
+            for (int c = 0; c < p->calls; c++)
+                call_once(p, k);
+            double took = 1e6 * (now() - begin) / p->calls;
             least[k] = r == 0 || took < least[k] ? took : least[k];
         }
 }
@@ -370,14 +265,14 @@ static void print_settled(const char *what, int sweeps, int most)
         printf(" %s do not settle,", what);
 }
 
-static void report(const char *name, const struct problem *p, int calls)
+static void report(const struct problem *p)
 {
     struct tables t;
     int64_t z[16], e[16];
     double us[SIDES];
     load(p, &t);
-    measure(p, calls, us);
-    printf("%s:", name);
+    measure(p, us);
+    printf("%s:", p->name);
     print_settled("commands", commands(p, &t, z), p->sweeps);
     print_settled("bounds", bounds(p, &t, e), p->sweeps);
     for (int k = 0; k < SIDES; k++)
@@ -386,39 +281,26 @@ static void report(const char *name, const struct problem *p, int calls)
 }
 
 /* Each line names a solve, in the order of valgrind's counts. */
-static void count(const char *name, const struct problem *p)
+static void count(const struct problem *p)
 {
     for (int k = 0; k < SIDES; k++) {
-        printf("%s, %s\n", name, sides[k].name);
-        solve_once(p, k);
+        printf("%s, %s\n", p->name, sides[k].name);
+        call_once(p, k);
     }
 }
 
 int main(int argc, char **argv)
 {
-    static struct problem small, hundred, largest, slowest;
+    static struct problem all[PROBLEMS];
     int counting = argc == 2 && strcmp(argv[1], "count") == 0;
-    make(&largest, 4, 4, 12, 4, 20, 400);
-    make(&small, 2, 1, 4, 0, 16, 20);
-    hundred = largest;
-    hundred.sweeps = 100;
-    put(hundred.image + 4 * 5, 100);
-    make_slowest(&slowest);
-    const struct {
-        const char *name;
-        const struct problem *problem;
-        int calls; /* a round */
-    } all[] = {{"n 2, nx 4, nr 0, b 16, 20 sweeps", &small, 200},
-               {"n 16, nx 12, nr 4, b 20, 100 sweeps", &hundred, 5},
-               {"n 16, nx 12, nr 4, b 20, 400 sweeps", &largest, 3},
-               {"n 16, nx 12, nr 4, b 20, 400 sweeps, slowest", &slowest, 3}};
-    for (size_t i = 0; i < sizeof all / sizeof *all; i++) {
-        if (!agree(all[i].name, all[i].problem))
+    make_problems(all);
+    for (const struct problem *p = all; p < all + PROBLEMS; p++) {
+        if (!agree(p))
             return 1;
         if (counting)
-            count(all[i].name, all[i].problem);
+            count(p);
         else
-            report(all[i].name, all[i].problem, all[i].calls);
+            report(p);
     }
     return 0;
 }
