@@ -1,13 +1,15 @@
 //! Document 01's cases at the edges as one table, the starred ones among them, and a few of our own behind them: edges
-//! that it implies, and those of requests 1 to 8. The figures of ours are worked out by hand from the papers. Solves that
-//! come to rest are a table of their own.
+//! that it implies, and those of requests 1 to 9. The figures of ours are worked out by hand from the papers. Solves that
+//! come to rest are a table of their own, and so are the scripts of request 9.
 
 mod distance;
+mod made;
 mod nearest;
 mod rest;
 mod stop;
 mod sums;
 
+pub use made::{Script, answers, run_script, scripts};
 pub use nearest::with_ties;
 pub use rest::{Rest, rests, table as at_rest};
 

@@ -3,7 +3,7 @@
 use crate::double::{self, Rounding};
 use crate::image::{Number, bytes};
 use crate::rules::Rules;
-use crate::{page, sheet, solve};
+use crate::{made, page, sheet, solve};
 
 #[derive(Clone, Copy, Debug, PartialEq, Eq)]
 pub enum Kind {
@@ -11,18 +11,29 @@ pub enum Kind {
     Page,
     ColdStart,
     Solve,
+    Make,
+    Ask,
+    Commit,
     ToWord,
     Inward,
     ToDouble,
 }
 
 impl Kind {
+    /// Is it one of request 9's, which have a made drive beside the other buffers?
+    pub fn is_on_made(self) -> bool {
+        matches!(self, Kind::Make | Kind::Ask | Kind::Commit)
+    }
+
     pub fn name(self) -> &'static str {
         match self {
             Kind::Intake => "intake",
             Kind::Page => "page",
             Kind::ColdStart => "cold_start",
             Kind::Solve => "solve",
+            Kind::Make => "make",
+            Kind::Ask => "ask",
+            Kind::Commit => "commit",
             Kind::ToWord => "to_word",
             Kind::Inward => "inward",
             Kind::ToDouble => "to_double",
@@ -33,7 +44,9 @@ impl Kind {
     pub fn arguments(self) -> (&'static [&'static str], &'static [&'static str]) {
         match self {
             Kind::Intake | Kind::Page => (&[], &["sheet"]),
-            Kind::ColdStart => (&[], &["image"]),
+            Kind::ColdStart | Kind::Make => (&[], &["image"]),
+            Kind::Ask => (&[], &["state", "target"]),
+            Kind::Commit => (&[], &[]),
             Kind::Solve => (&[], &["image", "state", "target", "start"]),
             Kind::ToWord => (&["bits", "b", "w", "how"], &[]),
             Kind::Inward => (&["low_bits", "high_bits", "b", "w"], &[]),
@@ -47,33 +60,56 @@ pub struct Call {
     pub kind: Kind,
     pub numbers: Vec<u64>,
     pub inputs: Vec<Vec<u8>>,
+    /// The made drive, where the call has one.
+    pub made: Vec<u8>,
     pub out_len: usize,
 }
 
 impl Call {
     pub fn on_buffers(kind: Kind, inputs: &[&[u8]], out_len: usize) -> Call {
         let inputs = inputs.iter().map(|input| input.to_vec()).collect();
-        Call { kind, numbers: Vec::new(), inputs, out_len }
+        Call { kind, numbers: Vec::new(), inputs, made: Vec::new(), out_len }
+    }
+
+    /// A make writes to the drive alone, and has no output buffer.
+    pub fn on_made(kind: Kind, made: Vec<u8>, inputs: &[&[u8]], out_len: usize) -> Call {
+        Call { made, ..Call::on_buffers(kind, inputs, out_len) }
     }
 
     pub fn on_numbers(kind: Kind, numbers: &[u64]) -> Call {
         let out_len = if kind == Kind::ToWord { 4 } else { 8 };
-        Call { kind, numbers: numbers.to_vec(), inputs: Vec::new(), out_len }
+        Call { kind, numbers: numbers.to_vec(), inputs: Vec::new(), made: Vec::new(), out_len }
+    }
+
+    /// What the papers say of it.
+    pub fn outcome(&self) -> Outcome {
+        let inputs: Vec<&[u8]> = self.inputs.iter().map(Vec::as_slice).collect();
+        if self.kind.is_on_made() {
+            return made::outcome(self.kind, &self.made, &inputs, self.out_len);
+        }
+        outcome(self.kind, &self.numbers, &inputs, self.out_len, Rules::default())
     }
 }
 
-/// What a call answers: its number, and the bytes of its output buffer unless it leaves them.
+/// What a call answers: its number, the bytes of its output buffer unless it leaves them, and the bytes of the made
+/// drive afterwards, none where the call has no such drive.
 #[derive(Clone, Debug, PartialEq, Eq)]
 pub struct Outcome {
     pub number: Number,
     pub written: Option<Vec<u8>>,
+    pub made: Vec<u8>,
 }
 
 pub trait Drive {
     fn call(&self, kind: Kind, numbers: &[u64], inputs: &[&[u8]], out: &mut [u8]) -> Number;
+
+    /// Request 9's calls. Those of other requests' false economies are right.
+    fn call_made(&self, kind: Kind, made: &mut [u8], inputs: &[&[u8]], out: &mut [u8]) -> Number {
+        made::call(kind, made, inputs, out)
+    }
 }
 
-/// The outcome by document 01 with requests 1 to 8, or that of a false economy.
+/// The outcome of a call without a made drive by document 01 with requests 1 to 8, or that of a false economy.
 pub fn outcome(kind: Kind, numbers: &[u64], inputs: &[&[u8]], out_len: usize, rules: Rules) -> Outcome {
     let result = match (kind, inputs) {
         (Kind::Intake, [sheet]) => sheet::intake_call(sheet, out_len, rules),
@@ -89,8 +125,8 @@ pub fn outcome(kind: Kind, numbers: &[u64], inputs: &[&[u8]], out_len: usize, ru
 
 fn of_result(result: Result<Vec<u8>, Number>) -> Outcome {
     match result {
-        Ok(written) => Outcome { number: 0, written: Some(written) },
-        Err(number) => Outcome { number, written: None },
+        Ok(written) => Outcome { number: 0, written: Some(written), made: Vec::new() },
+        Err(number) => Outcome { number, written: None, made: Vec::new() },
     }
 }
 
@@ -114,7 +150,7 @@ fn conversion(kind: Kind, numbers: &[u64]) -> Outcome {
             let result = double::of_word(value as i64, small(b), small(w));
             // The one call that writes with every number.
             let written = Some(result.unwrap_or(0).to_be_bytes().to_vec());
-            Outcome { number: result.err().unwrap_or(0), written }
+            Outcome { number: result.err().unwrap_or(0), written, made: Vec::new() }
         }
         _ => panic!("{kind:?} with other arguments than its own"),
     }
@@ -158,6 +194,18 @@ mod linked {
             answer: *mut u8,
             answer_len: usize,
         ) -> u32;
+        fn gantry_make(image: *const u8, image_len: usize, drive: *mut u8, drive_len: usize) -> u32;
+        fn gantry_ask(
+            drive: *mut u8,
+            drive_len: usize,
+            state: *const u8,
+            state_len: usize,
+            target: *const u8,
+            target_len: usize,
+            answer: *mut u8,
+            answer_len: usize,
+        ) -> u32;
+        fn gantry_commit(drive: *mut u8, drive_len: usize, commands: *mut u8, commands_len: usize) -> u32;
     }
 
     /// The static library.
@@ -185,6 +233,22 @@ mod linked {
                         room,
                     ),
                     _ => super::probe(kind, numbers, to, room),
+                }
+            }
+        }
+
+        fn call_made(&self, kind: Kind, made: &mut [u8], inputs: &[&[u8]], out: &mut [u8]) -> Number {
+            let (drive, length) = (made.as_mut_ptr(), made.len());
+            let (to, room) = (out.as_mut_ptr(), out.len());
+            // SAFETY: every pointer comes with the length of the slice it was taken from.
+            unsafe {
+                match (kind, inputs) {
+                    (Kind::Make, [image]) => gantry_make(image.as_ptr(), image.len(), drive, length),
+                    (Kind::Ask, [state, target]) => {
+                        gantry_ask(drive, length, state.as_ptr(), state.len(), target.as_ptr(), target.len(), to, room)
+                    }
+                    (Kind::Commit, []) => gantry_commit(drive, length, to, room),
+                    _ => panic!("{kind:?} with other arguments than its own"),
                 }
             }
         }

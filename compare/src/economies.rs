@@ -1,15 +1,16 @@
-//! The false economies and lazy drives of document 01, those of requests 1 to 8, and those that end a solve too early.
+//! The false economies and lazy drives of document 01, those of requests 1 to 9, and those that end a solve too early.
 //! Each must be found on the table of cases: a comparison that cannot fail is worthless.
 
 mod distance;
 mod labels;
 mod loops;
+mod made;
 mod nearest;
 mod rest;
 mod stop;
 mod sums;
 
-use crate::cases::{self, Case};
+use crate::cases::{self, Case, Script};
 use crate::double::{Rounding, of_count, to_word};
 use crate::drive::{Drive, Kind, Reference};
 use crate::former::{Former, Without};
@@ -544,15 +545,30 @@ fn width_as_bound(kind: Kind, inputs: &[&[u8]], number: Number, out: &mut [u8]) 
 }
 
 pub fn count() -> u64 {
-    (economies().len() + labels::LABELS.len()) as u64
+    (economies().len() + made::economies().len() + labels::LABELS.len()) as u64
 }
 
-pub fn run(harness: &mut Harness, index: u64, table: &[Case], at_rest: &[Case]) {
-    let economies = economies();
-    let (name, differences) = match economies.get(index as usize) {
-        Some(economy) => (format!("a drive that {}", economy.name), differences(economy, table, at_rest)),
-        None => labels::differences(index as usize - economies.len()),
+/// All that the economies are to be found on.
+pub struct Tables {
+    pub cases: Vec<Case>,
+    pub at_rest: Vec<Case>,
+    pub scripts: Vec<Script>,
+}
+
+pub fn run(harness: &mut Harness, index: u64, tables: &Tables) {
+    let (economies, made, index) = (economies(), made::economies(), index as usize);
+    let (name, differences) = if let Some(economy) = economies.get(index) {
+        (&economy.name, differences(economy, &tables.cases, &tables.at_rest))
+    } else if let Some(economy) = made.get(index - economies.len()) {
+        (&economy.name, economy.differences(&tables.scripts))
+    } else {
+        return labels::run(harness, index - economies.len() - made.len());
     };
+    found(harness, &format!("a drive that {name}"), differences);
+}
+
+/// What is wrong has to differ somewhere.
+fn found(harness: &mut Harness, name: &str, differences: u64) {
     println!("{name}: {differences} differences");
     harness.check(differences > 0, || format!("  {name} is not found"));
 }

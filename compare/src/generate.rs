@@ -4,7 +4,7 @@ use crate::double::{Rounding, of_count};
 use crate::draft::{Draft, keep_former, text};
 use crate::edges;
 use crate::image::{
-    COST, GAIN, HIGH, LOW, MOMENTUM, Number, STATE_LIMIT, Sizes, TABLES, TARGET_GAIN, TARGET_LIMIT, bytes,
+    COST, GAIN, HIGH, LOW, MOMENTUM, Number, Problem, STATE_LIMIT, Sizes, TABLES, TARGET_GAIN, TARGET_LIMIT, bytes,
     momentum_fits, words,
 };
 use crate::page::PAGE_LINE;
@@ -18,6 +18,10 @@ pub const INTAKE_NUMBERS: [Number; 13] = [1, 2, 3, 4, 5, 7, 17, 8, 9, 10, 11, 12
 pub const PAGE_NUMBERS: [Number; 13] = INTAKE_NUMBERS;
 pub const COLD_START_NUMBERS: [Number; 11] = [3, 5, 6, 7, 17, 8, 9, 10, 11, 12, 15];
 pub const SOLVE_NUMBERS: [Number; 14] = [3, 5, 6, 7, 17, 8, 9, 10, 11, 12, 13, 16, 14, 15];
+pub const MAKE_NUMBERS: [Number; 11] = COLD_START_NUMBERS;
+/// Those of the image and of the start where something else than the calls wrote to the drive.
+pub const ASK_NUMBERS: [Number; 14] = SOLVE_NUMBERS;
+pub const COMMIT_NUMBERS: [Number; 4] = [6, 3, 15, 18];
 pub const LABEL_NUMBERS: [Number; 14] = [1, 2, 3, 4, 5, 7, 17, 8, 9, 10, 11, 12, 13, 16];
 pub const PAGE_PROGRAM_NUMBERS: [Number; 12] = [1, 2, 3, 4, 5, 7, 17, 8, 9, 10, 11, 12];
 /// Those of the tables.
@@ -41,6 +45,12 @@ impl Plan {
             Some(_) => (vec![], false),
         };
         Plan { numbers, damage }
+    }
+
+    /// One of these at random.
+    pub fn any(random: &mut Random, numbers: &[Number]) -> Plan {
+        let turn = random.below(2 * numbers.len()) as u64;
+        Plan::new(random, turn, numbers)
     }
 
     /// A plan that leaves an accepted problem as it is.
@@ -460,18 +470,43 @@ pub fn few_case(random: &mut Random, plan: &Plan) -> SolveCase {
     case_of_sizes(random, plan, sizes)
 }
 
-fn case_of_sizes(random: &mut Random, plan: &Plan, sizes: Sizes) -> SolveCase {
-    let mut draft = accepted(random, sizes);
+/// The same with the largest image.
+pub fn largest_case(random: &mut Random, plan: &Plan) -> SolveCase {
+    let (motors, steps) = random.pick(&[(1, 16), (2, 8), (4, 4)]);
+    let sizes = Sizes { motors, steps, states: 12, targets: 4, ..plan.sizes(random) };
+    case_of_sizes(random, plan, sizes)
+}
+
+/// The image of a draft, both spoilt as planned.
+pub fn image_of(random: &mut Random, plan: &Plan, draft: &mut Draft) -> Vec<u8> {
     for &number in &plan.numbers {
-        spoil_tables(random, &mut draft, number);
+        spoil_tables(random, draft, number);
     }
     let mut image = draft.image();
     if plan.has(3) {
         spoil_header(random, &draft.sizes, &mut image);
     }
     if plan.has(6) {
-        spoil_length(random, &draft, &mut image);
+        spoil_length(random, draft, &mut image);
     }
+    image
+}
+
+/// A state and a target for a problem, spoilt as planned.
+pub fn inputs(random: &mut Random, plan: &Plan, problem: &Problem) -> [Vec<u8>; 2] {
+    let state = words_within(random, &problem.state_ranges(), plan.has(13));
+    let target = words_within(random, &problem.target_ranges(), plan.has(16));
+    let mut inputs = [state, target];
+    let which = random.below(2);
+    if plan.damage && !inputs[which].is_empty() {
+        damage(random, &mut inputs[which]);
+    }
+    inputs
+}
+
+fn case_of_sizes(random: &mut Random, plan: &Plan, sizes: Sizes) -> SolveCase {
+    let mut draft = accepted(random, sizes);
+    let mut image = image_of(random, plan, &mut draft);
     let problem = draft.problem();
     let mut state = words_within(random, &problem.state_ranges(), plan.has(13));
     let mut target = words_within(random, &problem.target_ranges(), plan.has(16));
@@ -533,6 +568,13 @@ pub fn page_len(random: &mut Random, plan: &Plan, sizes: &Sizes) -> usize {
     if plan.has(15) && random.one_in(2) { random.pick(&mistaken) } else { out_len(random, plan, exact) }
 }
 
+/// A length that the buffer of a commit might be taken to have. With N 1 some are right.
+pub fn commands_len(random: &mut Random, sizes: &Sizes) -> usize {
+    let n = sizes.commands();
+    let other = other_size(random, 4 * sizes.motors);
+    random.pick(&[other, other, 4 * n, 4 * sizes.steps, 8 * sizes.motors, solve::answer_len(n)])
+}
+
 fn spoil_header(random: &mut Random, sizes: &Sizes, image: &mut [u8]) {
     let words = sizes.words();
     let [motors, _, states, bits, width, iterations, targets, _] = words;
@@ -564,7 +606,7 @@ fn spoil_header(random: &mut Random, sizes: &Sizes, image: &mut [u8]) {
 }
 
 /// Changes one to three bytes at random.
-fn damage(random: &mut Random, buffer: &mut [u8]) {
+pub fn damage(random: &mut Random, buffer: &mut [u8]) {
     for _ in 0..=random.below(3) {
         let index = random.below(buffer.len());
         let (flipped, other) = (buffer[index] ^ 1 << random.below(8), random.next() as u8);

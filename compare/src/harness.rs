@@ -5,7 +5,7 @@ use std::fs::File;
 use std::os::unix::fs::FileExt;
 
 use crate::distance;
-use crate::drive::{Call, Drive, Kind, Outcome, outcome};
+use crate::drive::{Call, Drive, Kind, Outcome};
 use crate::edges::{self, Fate, TableEdge};
 use crate::image::{HEADER_WORDS, Number, Problem, Sizes, TABLES, words};
 use crate::page::{self, PAGE_LINE};
@@ -14,8 +14,8 @@ use crate::sheet::{self, hex, number_of};
 
 const GUARD: u8 = 0xA5;
 const GUARD_LEN: usize = 32;
-/// 0 to 17.
-pub const NUMBERS: usize = 18;
+/// 0 to 18.
+pub const NUMBERS: usize = 19;
 /// Failures printed in full; later ones are only counted.
 const PRINTED: u64 = 5;
 
@@ -64,20 +64,26 @@ fn untouched(length: usize) -> Vec<u8> {
 fn observe(drive: &dyn Drive, call: &Call) -> Result<Outcome, String> {
     let inputs: Vec<Lent> = call.inputs.iter().map(|input| Lent::new(input)).collect();
     let before = untouched(call.out_len);
-    let mut out = Lent::new(&before);
+    let (mut made, mut out) = (Lent::new(&call.made), Lent::new(&before));
     let lent: Vec<&[u8]> = inputs.iter().map(Lent::content).collect();
-    let number = drive.call(call.kind, &call.numbers, &lent, out.content_mut());
+    let number = if call.kind.is_on_made() {
+        drive.call_made(call.kind, made.content_mut(), &lent, out.content_mut())
+    } else {
+        drive.call(call.kind, &call.numbers, &lent, out.content_mut())
+    };
     let (_, names) = call.kind.arguments();
     for ((lent, input), name) in inputs.iter().zip(&call.inputs).zip(names) {
         if lent.content() != input || !lent.guards_hold() {
             return Err(format!("number {number}, and wrote to or beside the lent {name}"));
         }
     }
-    if !out.guards_hold() {
-        return Err(format!("number {number}, and wrote beside the output buffer"));
+    for (lent, name) in [(&out, "output buffer"), (&made, "drive")] {
+        if !lent.guards_hold() {
+            return Err(format!("number {number}, and wrote beside the {name}"));
+        }
     }
     let after = out.content();
-    Ok(Outcome { number, written: (after != before).then(|| after.to_vec()) })
+    Ok(Outcome { number, written: (after != before).then(|| after.to_vec()), made: made.content().to_vec() })
 }
 
 pub struct Harness<'a> {
@@ -94,8 +100,11 @@ pub struct Harness<'a> {
     pub inputs: BTreeSet<(i64, i64)>,
     /// The nu and N of those whose limits change from step to step.
     pub changing: BTreeSet<(i64, i64)>,
+    /// The nu and N of made drives whose answers were committed in random runs.
+    pub committed: BTreeSet<(usize, usize)>,
     /// How often a random solve lay at an edge of check 12 or 17, came to rest in some way, had a D or an optimum of
-    /// some kind, or was another than before request 4 or 6, and a random sheet another than before request 7.
+    /// some kind, or was another than before request 4 or 6, a random sheet another than before request 7, and a random
+    /// run came by an edge of request 9.
     pub edges: BTreeMap<&'static str, u64>,
     /// What became of the numbers of tables in random sheets.
     pub tables: BTreeSet<TableEdge>,
@@ -120,6 +129,7 @@ impl<'a> Harness<'a> {
             targets: BTreeSet::new(),
             inputs: BTreeSet::new(),
             changing: BTreeSet::new(),
+            committed: BTreeSet::new(),
             edges: BTreeMap::new(),
             tables: BTreeSet::new(),
             marks: BTreeSet::new(),
@@ -144,8 +154,7 @@ impl<'a> Harness<'a> {
 
     /// Compares one call, and returns what the papers expect of it.
     pub fn compare(&mut self, call: &Call) -> Outcome {
-        let inputs: Vec<&[u8]> = call.inputs.iter().map(Vec::as_slice).collect();
-        let expected = outcome(call.kind, &call.numbers, &inputs, call.out_len, Rules::default());
+        let expected = call.outcome();
         let observed = observe(self.drive, call);
         self.meet(call.kind.name(), expected.number);
         match (call.kind, &expected.written) {
@@ -165,7 +174,7 @@ impl<'a> Harness<'a> {
     }
 
     /// Problems made by hand would hide a size or an edge that the generator never finds.
-    fn is_random(&self) -> bool {
+    pub fn is_random(&self) -> bool {
         !self.quiet && !matches!(self.place.0, "cases" | "damage")
     }
 
@@ -182,6 +191,13 @@ impl<'a> Harness<'a> {
         self.cover_edges(&problem, 0);
         let (inputs, commands) = ([words(&lent[1]), words(&lent[2])].concat(), words(&answer[..lent[3].len()]));
         self.meet_edges(distance::edges(&problem, &inputs, &commands));
+    }
+
+    /// Of a drive that only the calls wrote.
+    pub fn cover_commit(&mut self, sizes: &Sizes) {
+        if self.is_random() {
+            self.committed.insert((sizes.motors, sizes.steps));
+        }
     }
 
     fn cover_edges(&mut self, problem: &Problem, number: Number) {
@@ -258,20 +274,36 @@ fn describe(call: &Call, expected: &Outcome, observed: &Result<Outcome, String>)
     for (name, input) in input_names.iter().zip(&call.inputs) {
         text += &format!("  {name}, {} bytes\n{}", input.len(), show(name, input));
     }
-    text += &format!("  expected {}\n", show_outcome(call.kind, expected));
+    if call.kind.is_on_made() {
+        text += &format!("  drive, {} bytes\n{}", call.made.len(), show_made(&call.made));
+    }
+    text += &format!("  expected {}\n", show_outcome(call, expected));
     match observed {
-        Ok(outcome) => text + &format!("  answered {}", show_outcome(call.kind, outcome)),
+        Ok(outcome) => text + &format!("  answered {}", show_outcome(call, outcome)),
         Err(fault) => text + &format!("  answered {fault}"),
     }
 }
 
-fn show_outcome(kind: Kind, outcome: &Outcome) -> String {
+fn show_outcome(call: &Call, outcome: &Outcome) -> String {
+    let drive = show_change(&call.made, &outcome.made);
     match &outcome.written {
-        Some(written) if kind == Kind::Page => {
+        Some(written) if call.kind == Kind::Page => {
             format!("number {}, writing\n{}", outcome.number, show_text(written).trim_end())
         }
-        Some(written) => format!("number {}, writing {}", outcome.number, hex(written)),
-        None => format!("number {}, buffer left", outcome.number),
+        Some(written) => format!("number {}, writing {}{drive}", outcome.number, hex(written)),
+        None => format!("number {}, buffer left{drive}", outcome.number),
+    }
+}
+
+/// The bytes of a made drive from the first that is another than before to the last.
+fn show_change(before: &[u8], after: &[u8]) -> String {
+    let mut changed = (0..after.len()).filter(|&at| before[at] != after[at]);
+    match (changed.next(), changed.next_back()) {
+        (Some(first), last) => {
+            let last = last.unwrap_or(first);
+            format!(", drive from byte {first} on {}", hex(&after[first..=last]))
+        }
+        _ => String::new(),
     }
 }
 
@@ -280,8 +312,17 @@ fn show(name: &str, input: &[u8]) -> String {
     if name == "sheet" {
         return show_text(input);
     }
-    let line = |chunk: &[u8]| chunk.chunks(4).map(hex).collect::<Vec<String>>().join(" ");
-    input.chunks(64).map(|chunk| format!("    {}\n", line(chunk))).collect()
+    input.chunks(64).map(|chunk| format!("    {}\n", show_words(chunk))).collect()
+}
+
+fn show_words(bytes: &[u8]) -> String {
+    bytes.chunks(4).map(hex).collect::<Vec<String>>().join(" ")
+}
+
+/// A made drive in words, each line behind its first byte's place. Lines of zeros are left out.
+fn show_made(made: &[u8]) -> String {
+    let lines = made.chunks(64).enumerate().filter(|(_, line)| line.iter().any(|&byte| byte != 0));
+    lines.map(|(i, line)| format!("    {:4}: {}\n", 64 * i, show_words(line))).collect()
 }
 
 fn show_text(text: &[u8]) -> String {

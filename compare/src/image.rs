@@ -409,17 +409,17 @@ fn ranges(limits: &[i64]) -> Vec<(i64, i64)> {
     limits.iter().map(|&limit| (-limit, limit)).collect()
 }
 
+/// The sizes of an image of the length that they give: 6, 3, 6.
+pub fn read_sizes(image: &[u8]) -> Result<Sizes, Number> {
+    let header = image.get(..4 * HEADER_WORDS).ok_or(6u32)?;
+    let sizes = Sizes::of_words(&words(header)).ok_or(3u32)?;
+    if image.len() == sizes.image_bytes() { Ok(sizes) } else { Err(6) }
+}
+
 /// An accepted image's problem.
 pub fn open(image: &[u8], rules: Rules) -> Result<Problem, Number> {
-    if image.len() < 4 * HEADER_WORDS {
-        return Err(6);
-    }
-    let (header, body) = image.split_at(4 * HEADER_WORDS);
-    let sizes = Sizes::of_words(&words(header)).ok_or(3u32)?;
-    if image.len() != sizes.image_bytes() {
-        return Err(6);
-    }
-    let body = words(body);
+    let sizes = read_sizes(image)?;
+    let body = words(&image[4 * HEADER_WORDS..]);
     for ((section, _, _), &word) in sizes.places().zip(&body) {
         if word.abs() > sizes.top() || !section.admits(word, rules) {
             return Err(5);

@@ -1,4 +1,4 @@
-//! The second program: document 01 with requests 1 to 8 implemented on its own, beside the static library, the label
+//! The second program: document 01 with requests 1 to 9 implemented on its own, beside the static library, the label
 //! program and the page program.
 
 mod big;
@@ -14,12 +14,15 @@ mod generate;
 mod harness;
 mod image;
 mod label;
+mod made;
 mod optimum;
 mod page;
+mod plain;
 mod process;
 mod random;
 mod rest;
 mod rules;
+mod runs;
 mod sheet;
 mod solve;
 mod trials;
@@ -40,7 +43,7 @@ const COUNT: u64 = 100_000;
 const LONG_COUNT: u64 = 20 * COUNT;
 /// From this count on a run has to have met every number of every call, every size, every nr with every n and with every
 /// nx, limits that change along every N, every edge of checks 12 and 17, every way to round a table, every way to come to
-/// rest, every kind of D and of optimum, and all that requests 4, 6 and 7 change.
+/// rest, every kind of D and of optimum, all that requests 4, 6 and 7 change, and every edge of request 9.
 const COVERING_COUNT: u64 = 20_000;
 
 struct Options {
@@ -153,11 +156,14 @@ fn print_numbers(harness: &Harness) {
 fn require_cover(harness: &mut Harness) {
     harness.enter("cover", 0);
     let conversions: [Number; 1] = [5];
-    let can: [(&str, &[Number]); 9] = [
+    let can: [(&str, &[Number]); 12] = [
         ("intake", &generate::INTAKE_NUMBERS),
         ("page", &generate::PAGE_NUMBERS),
         ("cold_start", &generate::COLD_START_NUMBERS),
         ("solve", &generate::SOLVE_NUMBERS),
+        ("make", &generate::MAKE_NUMBERS),
+        ("ask", &generate::ASK_NUMBERS),
+        ("commit", &generate::COMMIT_NUMBERS),
         ("label", &generate::LABEL_NUMBERS),
         ("page_program", &generate::PAGE_PROGRAM_NUMBERS),
         ("to_word", &conversions),
@@ -181,6 +187,19 @@ fn require_cover(harness: &mut Harness) {
         harness.check(met > 0, || format!("  no random solve: {edge}"));
     }
     require_tables(harness);
+    require_runs(harness);
+}
+
+/// What request 9 is about.
+fn require_runs(harness: &mut Harness) {
+    let committed = harness.committed.len();
+    println!("random runs: {committed} of 33 pairs of nu and N were committed");
+    harness.check(committed == 33, || "  some sizes were never committed".to_string());
+    for edge in runs::edges() {
+        let met = harness.edges.get(edge).copied().unwrap_or(0);
+        println!("random runs, {edge}: {met}");
+        harness.check(met > 0, || format!("  no random run: {edge}"));
+    }
 }
 
 /// What rounding did to the numbers of tables, and to the numbers of sheets.

@@ -11,7 +11,7 @@ use crate::distance::distance;
 use crate::double::{self, Rounding};
 use crate::draft::Draft;
 use crate::drive::{Call, Kind, Outcome};
-use crate::economies;
+use crate::economies::{self, Tables};
 use crate::former::{Former, Without};
 use crate::generate::{self, Plan, SolveCase};
 use crate::harness::{Harness, Lent};
@@ -20,12 +20,14 @@ use crate::image::{
     top, words,
 };
 use crate::label;
+use crate::made::{ANSWER, IMAGE, MADE_LEN, START, WAITS, answer_part, start_part};
 use crate::optimum::Optimum;
 use crate::page::{self, PAGE_LINE};
 use crate::process::Program;
 use crate::random::Random;
 use crate::rest::{self, Courses, MOST_SWEEPS};
 use crate::rules::{Rules, Use};
+use crate::runs;
 use crate::sheet::{self, LINE, MOST_LINES, hex, number_of, unhex};
 use crate::solve::{Answer, ErrorBound, Exact, Rounded, answer_len};
 
@@ -44,22 +46,11 @@ pub fn run(harness: &mut Harness, group: &Group, index: u64) {
 
 pub fn groups(count: u64, has_conversions: bool, work: &Path) -> Vec<Group> {
     let group = |name, count, trial: fn(&mut Harness, u64, &mut Random)| Group { name, count, trial: Box::new(trial) };
-    let (table, at_rest) = (Rc::new(cases::table()), Rc::new(cases::at_rest()));
-    let (lent, lent_at_rest) = (table.clone(), at_rest.clone());
+    let [cases, economies] = groups_of_tables();
     let mut groups = vec![
         group("itself", 1, itself),
-        Group {
-            name: "cases",
-            count: (table.len() + at_rest.len()) as u64,
-            trial: Box::new(move |harness, index, _| {
-                cases::run(harness, table.iter().chain(&*at_rest).nth(index as usize).expect("the index is of a case"))
-            }),
-        },
-        Group {
-            name: "economies",
-            count: economies::count(),
-            trial: Box::new(move |harness, index, _| economies::run(harness, index, &lent, &lent_at_rest)),
-        },
+        cases,
+        economies,
         group("damage", damaged_bytes(), damage),
         group("solve", count, solve),
         group("cold_start", count / 4, cold_start),
@@ -69,6 +60,7 @@ pub fn groups(count: u64, has_conversions: bool, work: &Path) -> Vec<Group> {
         group("optimum", count / 25, optimum),
         group("rest", count / 100, rest),
         group("former", count / 50, former),
+        group("runs", count / 10, runs::trial),
     ];
     if has_conversions {
         let formats = formats().len() as u64;
@@ -85,6 +77,28 @@ pub fn groups(count: u64, has_conversions: bool, work: &Path) -> Vec<Group> {
         }
     }
     groups
+}
+
+/// The cases, and the economies that are to be found on them.
+fn groups_of_tables() -> [Group; 2] {
+    let tables = Rc::new(Tables { cases: cases::table(), at_rest: cases::at_rest(), scripts: cases::scripts() });
+    let count = tables.cases.len() + tables.at_rest.len() + tables.scripts.len();
+    let lent = tables.clone();
+    let case: Trial = Box::new(move |harness, index, _| case(harness, &lent, index as usize));
+    let economy: Trial = Box::new(move |harness, index, _| economies::run(harness, index, &tables));
+    [
+        Group { name: "cases", count: count as u64, trial: case },
+        Group { name: "economies", count: economies::count(), trial: economy },
+    ]
+}
+
+/// A case of the tables, then a script.
+fn case(harness: &mut Harness, tables: &Tables, index: usize) {
+    let Tables { cases, at_rest, scripts } = tables;
+    match cases.iter().chain(at_rest).nth(index) {
+        Some(case) => cases::run(harness, case),
+        None => cases::run_script(harness, &scripts[index - cases.len() - at_rest.len()]),
+    }
 }
 
 const PROGRAMS: [Program; 2] = [label::PROGRAM, page::PROGRAM];
@@ -209,10 +223,10 @@ fn victims() -> Vec<(Draft, Vec<u8>)> {
 }
 
 fn damaged_bytes() -> u64 {
-    victims().iter().map(|(draft, sheet)| (sheet.len() + draft.image().len()) as u64).sum()
+    victims().iter().map(|(draft, sheet)| (sheet.len() + draft.image().len() + MADE_LEN) as u64).sum()
 }
 
-/// Every other value of one byte of a sheet or an image, and the text or image cut there.
+/// Every other value of one byte of a sheet or an image, and the text or image cut there; and of a made drive.
 fn damage(harness: &mut Harness, index: u64, _: &mut Random) {
     let mut index = index as usize;
     for (draft, sheet) in victims() {
@@ -235,6 +249,10 @@ fn damage(harness: &mut Harness, index: u64, _: &mut Random) {
             return;
         }
         index -= image.len();
+        if index < MADE_LEN {
+            return runs::damage(harness, &draft, index);
+        }
+        index -= MADE_LEN;
     }
 }
 
@@ -804,6 +822,7 @@ fn itself(harness: &mut Harness, _: u64, random: &mut Random) {
     without_distance_agrees(harness);
     optimum_agrees(harness);
     rests_agree(harness);
+    parts_agree(harness);
     economies::right_ends_agree(harness);
     let mut lent = Lent::new(&[1, 2, 3]);
     harness.check(lent.guards_hold(), || "  a guard does not hold by itself".to_string());
@@ -830,6 +849,16 @@ fn rests_agree(harness: &mut Harness) {
         let holds = found == moments && answer == last && courses.stay();
         harness.check(holds, || format!("  {name}: at rest in {found:?}, and at last {answer:?}"));
     }
+}
+
+/// A made drive has room for the image, the start and the answer of the largest sizes, and no byte more.
+fn parts_agree(harness: &mut Harness) {
+    let sizes = Sizes { motors: 4, steps: 4, states: 12, targets: 4, ..cases::sample().sizes };
+    let holds = WAITS == IMAGE + sizes.image_bytes()
+        && START == WAITS + 4
+        && ANSWER == start_part(&sizes).end
+        && MADE_LEN == answer_part(&sizes).end;
+    harness.check(holds, || "  the parts of a made drive do not follow each other".to_string());
 }
 
 /// The drive without request 4 on coupled steps: −8 + 0 − 10 for −7.5 and 0.75, and c 2. Y is 3 and 2, and the terms of

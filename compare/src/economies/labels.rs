@@ -1,7 +1,9 @@
 //! Request 8's false economies of the label program, which is compared by what it prints.
 
+use super::found;
 use crate::cases::label_table;
 use crate::distance;
+use crate::harness::Harness;
 use crate::label::{self, Solved, digits, lines_with};
 
 /// What such a program prints for an accepted folder.
@@ -66,9 +68,10 @@ pub const LABELS: [(&str, Print); 19] = [
     }),
 ];
 
-/// The name of one of them, and the folders of the table that it is found on.
-pub fn differences(index: usize) -> (String, u64) {
+/// Tries one of them on the folders of the table.
+pub fn run(harness: &mut Harness, index: usize) {
     let (name, print) = LABELS[index];
     let differs = |(folder, text): &(_, String)| label::solve(folder).is_ok_and(|solved| print(&solved) != *text);
-    (format!("a label program that {name}"), label_table().iter().filter(|entry| differs(entry)).count() as u64)
+    let differences = label_table().iter().filter(|entry| differs(entry)).count();
+    found(harness, &format!("a label program that {name}"), differences as u64);
 }
