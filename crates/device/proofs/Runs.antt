@@ -17,52 +17,48 @@ module _ (s : Solver) where
     abbrev now : Device
     now = deviceNow s image l
 
-    abbrev Told : Call → Type 0
-    Told c = step s now c .next ≡ deviceNow s image (eventOf c (step s now c) ∷ l)
+    abbrev Logged : Call → Type 0
+    Logged c = step s now c .next ≡ deviceNow s image (eventOf c (step s now c) ∷ l)
 
-    told-refused : (c : Call) → eqb (callNumber s now c) 0 ≡ false → Told c
+    logged-refused : (c : Call) → eqb (callNumber s now c) 0 ≡ false → Logged c
     unfolding imageNow waitingNow startNow step
-    told-refused c e = rw e
+    logged-refused c e = rw e
 
-    told-accepted : (c : Call) → eqb (callNumber s now c) 0 ≡ true → Told c
+    logged-accepted : (c : Call) → eqb (callNumber s now c) 0 ≡ true → Logged c
     unfolding imageNow waitingNow startNow step callAnswer callNext made
-    told-accepted (make i) e = rw e
-    told-accepted (ask state target room) e = rw e
-    told-accepted (commit room) e = rw e
+    logged-accepted (make i) e = rw e
+    logged-accepted (ask state target room) e = rw e
+    logged-accepted (commit room) e = rw e
 
-    told : (c : Call) → Told c
-    told c = by (eqb (callNumber s now c) 0) refl
+    logged : (c : Call) → Logged c
+    logged c = by (eqb (callNumber s now c) 0) refl
       where
-        by : (t : Bool) → eqb (callNumber s now c) 0 ≡ t → Told c
-        by true e = told-accepted c e
-        by false e = told-refused c e
+        by : (t : Bool) → eqb (callNumber s now c) 0 ≡ t → Logged c
+        by true e = logged-accepted c e
+        by false e = logged-refused c e
 
-  told-by : (image : List ℕ) (l : List Event) (d : Device) (c : Call) → d ≡ deviceNow s image l → step s d c .next ≡ deviceNow s image (eventOf c (step s d c) ∷ l)
-  told-by image l d c e = rw e (told image l c)
+  logged-by : (image : List ℕ) (l : List Event) (d : Device) (c : Call) → d ≡ deviceNow s image l → step s d c .next ≡ deviceNow s image (eventOf c (step s d c) ∷ l)
+  logged-by image l d c e = rw e (logged image l c)
 
   pub by-log : (image : List ℕ) (cs : List Call) → ByLog s image cs
   unfolding imageNow waitingNow startNow made
   by-log image [] = refl
-  by-log image (c ∷ cs) = told-by image (log s (made s image) cs) (after s (made s image) cs) c (by-log image cs)
+  by-log image (c ∷ cs) = logged-by image (log s (made s image) cs) (after s (made s image) cs) c (by-log image cs)
 
   -- ---- calls that leave the start
+  only-refused : (t : Bool) (next d : Device) → cond t false true ≡ true → cond t next d .start ≡ d .start
+  only-refused true next d q = absurd (true≢false (sym q))
+  only-refused false next d q = refl
+
   kept-step : (d : Device) (c : Call) → keepsStart (eventOf c (step s d c)) ≡ true → step s d c .next .start ≡ d .start
   unfolding step callNext
-  kept-step d (make i) k = by (eqb (callNumber s d (make i)) 0) k
-    where
-      by : (t : Bool) → cond t false true ≡ true → cond t (callNext s d (make i)) d .start ≡ d .start
-      by true q = absurd (true≢false (sym q))
-      by false q = refl
+  kept-step d (make i) k = only-refused (eqb (callNumber s d (make i)) 0) _ d k
+  kept-step d (commit room) k = only-refused (eqb (callNumber s d (commit room)) 0) _ d k
   kept-step d (ask state target room) k = by (eqb (callNumber s d (ask state target room)) 0)
     where
       by : (t : Bool) → cond t (callNext s d (ask state target room)) d .start ≡ d .start
       by true = refl
       by false = refl
-  kept-step d (commit room) k = by (eqb (callNumber s d (commit room)) 0) k
-    where
-      by : (t : Bool) → cond t false true ≡ true → cond t (callNext s d (commit room)) d .start ≡ d .start
-      by true q = absurd (true≢false (sym q))
-      by false q = refl
 
   pub kept-start : (d : Device) (cs : List Call) → allKeepStart (log s d cs) ≡ true → after s d cs .start ≡ d .start
   kept-start d [] k = refl

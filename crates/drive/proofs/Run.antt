@@ -86,17 +86,17 @@ module _ (image : List ℕ) (e : imageNumber image ≡ 0) where
     valid : Valid d
     valid = valid-run (makeDrive image) (new-valid image e) cs
 
-    pub image-told : heldImage d ≡ imageNow image (logNow image cs)
+    pub image-by-log : heldImage d ≡ imageNow image (logNow image cs)
     unfolding deviceOf
-    image-told = ap (λ (x : Device). x .image) (by-log-held cs)
+    image-by-log = ap (λ (x : Device). x .image) (by-log-held cs)
 
-    start-told : heldStart d ≡ startNow solver image (logNow image cs)
+    start-by-log : heldStart d ≡ startNow solver image (logNow image cs)
     unfolding deviceOf
-    start-told = ap (λ (x : Device). x .start) (by-log-held cs)
+    start-by-log = ap (λ (x : Device). x .start) (by-log-held cs)
 
-    waiting-told : cond (eqb (heldWaiting d) 0) none (some (heldAnswer d)) ≡ waitingNow (logNow image cs)
+    waiting-by-log : cond (eqb (heldWaiting d) 0) none (some (heldAnswer d)) ≡ waitingNow (logNow image cs)
     unfolding deviceOf
-    waiting-told = ap (λ (x : Device). x .waiting) (by-log-held cs)
+    waiting-by-log = ap (λ (x : Device). x .waiting) (by-log-held cs)
 
     -- 14 cannot happen, nor a number of the image
     ask-checks : (state target : List ℕ) (room : ℕ) →
@@ -114,12 +114,12 @@ module _ (image : List ℕ) (e : imageNumber image ≡ 0) where
     pub every-run : EveryRun image cs
     unfolding makeNumber askAnswer commitNumber commitAnswer firstCommands
     every-run = record {
-      held-start = start-told;
+      held-start = start-by-log;
       make-number = λ other. ap (orElse (imageNumber other)) (sym (ordering.buffer-fits driveLength (length d) (valid .size))) ∙ ordering.or-none (imageNumber other);
-      ask-number = λ state target room. rw (← image-told) (ask-checks state target room);
-      ask-answer = λ state target. ap₂ (λ (i s : List ℕ). solveAnswer i state target s) image-told start-told;
-      commit-number = λ room. rw (← image-told, ← waiting-told, parts-found d valid, waits-is (eqb (heldWaiting d) 0) (heldAnswer d)) refl;
-      commit-answer = λ answer w. ap₂ (λ (i a : List ℕ). firstCommands i a) image-told (the-answer (eqb (heldWaiting d) 0) (heldAnswer d) answer (waiting-told ∙ w));
+      ask-number = λ state target room. rw (← image-by-log) (ask-checks state target room);
+      ask-answer = λ state target. ap₂ (λ (i s : List ℕ). solveAnswer i state target s) image-by-log start-by-log;
+      commit-number = λ room. rw (← image-by-log, ← waiting-by-log, parts-found d valid, waits-is (eqb (heldWaiting d) 0) (heldAnswer d)) refl;
+      commit-answer = λ answer w. ap₂ (λ (i a : List ℕ). firstCommands i a) image-by-log (the-answer (eqb (heldWaiting d) 0) (heldAnswer d) answer (waiting-by-log ∙ w));
     }
 
     pub zeros-until-commit : ZerosUntilCommit image cs
@@ -130,8 +130,8 @@ module _ (image : List ℕ) (e : imageNumber image ≡ 0) where
   unfolding afterCall numberOn driveOn
   last-commit earlier room later n k = record {
     answer = heldAnswer before;
-    asked = sym (waiting-told earlier) ∙ ap (λ (t : Bool). cond t none (some (heldAnswer before))) (ne-eqb (heldWaiting before) 0 (c .waiting));
-    start = kept-held after (valid (commit room ∷ earlier)) later k ∙ moved ∙ ap (λ (i : List ℕ). nextStart i (heldAnswer before)) (image-told earlier);
+    asked = sym (waiting-by-log earlier) ∙ ap (λ (t : Bool). cond t none (some (heldAnswer before))) (ne-eqb (heldWaiting before) 0 (c .waiting));
+    start = kept-held after (valid (commit room ∷ earlier)) later k ∙ moved ∙ ap (λ (i : List ℕ). nextStart i (heldAnswer before)) (image-by-log earlier);
   }
     where
       before : List ℕ

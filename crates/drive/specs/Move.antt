@@ -33,7 +33,7 @@ unfoldable pub firstCommands : List ℕ → List ℕ → List ℕ
 firstCommands image answer = take (firstLength image) answer
 
 -- ---- the same by motor and step, as a statement
--- the command of a motor at a step, and of an answer
+-- which command a motor has at a step, and what an answer says of it
 abbrev pub commandOf : Sizes → ℕ → ℕ → ℕ
 commandOf z step motor = step * z .nu + motor
 
