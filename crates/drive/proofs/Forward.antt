@@ -10,7 +10,7 @@ use borrow.Author.Tests.{lt-ltb, le-ltb}
 use Rattle.image.specs.declared.Sizes.{Sizes}
 use Rattle.image.specs.Sizes.{commandCount}
 use Rattle.word.specs.Word.{wordAt}
-use Rattle.drive.specs.Move.{movedAt, commandOf, heldTo, MovedOn}
+use Rattle.drive.specs.Move.{movedAt, commandOf, clampAt, MovedOn}
 
 module _ (z : Sizes) (step motor : ℕ) (h : motor < z .nu) where
   abbrev k : ℕ
@@ -33,6 +33,6 @@ module _ (z : Sizes) (step motor : ℕ) (h : motor < z .nu) where
 pub moved-on : (z : Sizes) (image answer : List ℕ) (step motor : ℕ) → motor < z .nu → MovedOn z image answer step motor
 unfolding movedAt
 moved-on z image answer step motor h = record {
-  forward = λ l. rw (before-last z step motor h l) (ap (λ (k : ℕ). heldTo z image step motor (wordAt answer (4 * k))) (next z step motor h));
+  forward = λ l. rw (before-last z step motor h l) (ap (λ (k : ℕ). clampAt z image step motor (wordAt answer (4 * k))) (next z step motor h));
   repeated = λ e. rw (in-last z step motor h e) refl;
 }

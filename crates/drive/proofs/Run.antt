@@ -86,7 +86,7 @@ module _ (image : List ℕ) (e : imageNumber image ≡ 0) where
     valid : Valid d
     valid = valid-run (makeDrive image) (new-valid image e) cs
 
-    pub image-by-log : heldImage d ≡ imageNow image (logNow image cs)
+    image-by-log : heldImage d ≡ imageNow image (logNow image cs)
     unfolding deviceOf
     image-by-log = ap (λ (x : Device). x .image) (by-log-held cs)
 

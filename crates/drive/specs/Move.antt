@@ -40,11 +40,11 @@ commandOf z step motor = step * z .nu + motor
 abbrev pub answeredAt : Sizes → List ℕ → ℕ → ℕ → ℤ
 answeredAt z answer step motor = wordAt answer (4 * commandOf z step motor)
 
--- a value held to the limits of a motor at a step
-abbrev pub heldTo : Sizes → List ℕ → ℕ → ℕ → ℤ → ℤ
-heldTo z image step motor t = clamp (lowerAt z image (commandOf z step motor)) (upperAt z image (commandOf z step motor)) t
+-- a value "held to the limits" of a motor at a step
+abbrev pub clampAt : Sizes → List ℕ → ℕ → ℕ → ℤ → ℤ
+clampAt z image step motor t = clamp (lowerAt z image (commandOf z step motor)) (upperAt z image (commandOf z step motor)) t
 
 -- "the rest one step forward", "the last step" repeated, "each to the limits of its new step"
 pub record MovedOn (z : Sizes) (image answer : List ℕ) (step motor : ℕ) : Type 0 where
-  pub forward : step + 1 < z .steps → movedAt z image answer (commandOf z step motor) ≡ heldTo z image step motor (answeredAt z answer (step + 1) motor)
-  pub repeated : step + 1 ≡ z .steps → movedAt z image answer (commandOf z step motor) ≡ heldTo z image step motor (answeredAt z answer step motor)
+  pub forward : step + 1 < z .steps → movedAt z image answer (commandOf z step motor) ≡ clampAt z image step motor (answeredAt z answer (step + 1) motor)
+  pub repeated : step + 1 ≡ z .steps → movedAt z image answer (commandOf z step motor) ≡ clampAt z image step motor (answeredAt z answer step motor)

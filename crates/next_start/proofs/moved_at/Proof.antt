@@ -5,6 +5,7 @@ use mir.Val.{SFits}
 use Rattle.integer.specs.Round.{clamp}
 use Rattle.integer.proofs.Clamping.{clamp-fits}
 use Rattle.integer.proofs.Machine.{back}
+use Rattle.image.specs.Layout.{lowerAt, upperAt}
 use Rattle.drive.specs.Move.{movedAt}
 use borrow.Author.Needs.{needs}
 use Rattle.next_start.proofs.moved_at.Statement.{statement}
@@ -44,8 +45,10 @@ returns c =
     let high = c .before .before .upper-at in
     let w = c .before .word-at in
     let e : c .clamp .result ≡ clamp (low .result) (high .result) (w .result) = rw (back (low .result) (low .ok), back (high .result) (high .ok), back (w .result) (w .ok)) at (c .clamp .ensures) in
+    let l : low .result ≡ lowerAt (a .z) (a .image .now) (a .k) = low .ensures .0 in
+    let u : high .result ≡ upperAt (a .z) (a .image .now) (a .k) = high .ensures .0 in
     rw (back (c .clamp .result) (c .clamp .ok)) (
-      e ∙ (rw (low .ensures .0, high .ensures .0, w .ensures .0, from .ensures .0)),
+      e ∙ (rw (l, u, w .ensures .0, from .ensures .0)),
       subst (SFits w32) (sym e) (clamp-fits (low .result) (high .result) (w .result) (low .ensures .1) (high .ensures .1) (w .ensures .1)),
     )
 
