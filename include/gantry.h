@@ -8,7 +8,7 @@
  * What the caller owes: each pointer is valid for its length (for a length of 0 any pointer that is not null will do), a
  * buffer that is written overlaps no other buffer of the call, and no other thread writes to a buffer during the call, nor
  * reads one that is written. The library keeps nothing between two calls but what stands in a drive, a buffer of the
- * caller's; it uses no heap, and every call returns. They do not recurse: no routine of the library calls itself,
+ * caller's; it uses no heap, and every call returns. The calls do not recurse: no routine of the library calls itself,
  * directly or through others, and none calls through a pointer. So the stack of a call has a bound for all inputs:
  * GANTRY_STACK_BYTES, below.
  */
