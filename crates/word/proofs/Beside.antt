@@ -12,7 +12,7 @@ use Rattle.word.proofs.Buffer.{length-put, getD-part, part-put}
 use Rattle.word.proofs.Words.{nat-part, nat-back, length-bytes}
 
 -- a number is read from its four bytes
-nat-of : (s t : List ℕ) (p : ℕ) → take 4 (drop p s) ≡ take 4 (drop p t) → natAt s p ≡ natAt t p
+pub nat-of : (s t : List ℕ) (p : ℕ) → take 4 (drop p s) ≡ take 4 (drop p t) → natAt s p ≡ natAt t p
 nat-of s t p e = alone s ∙ ap (λ (l : List ℕ). natBE 4 l 0) e ∙ sym (alone t)
   where
     alone : (l : List ℕ) → natAt l p ≡ natBE 4 (take 4 (drop p l)) 0
