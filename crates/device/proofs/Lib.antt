@@ -1,2 +1,3 @@
 -- The theorems on every run.
 pub mod Runs
+pub mod Apart

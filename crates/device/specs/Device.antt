@@ -1,14 +1,32 @@
 -- A drive as a value. Assumes nothing.
 use Prim.Native.Nat.{ℕ}
-use mathlib.Core.Bool.{Bool, true, false}
-use mathlib.Core.List.{List, []}
+use mathlib.Core.Bool.{Bool, true, false, not, _&&_}
+use mathlib.Core.List.{List, [], _∷_}
 use mathlib.Core.Option.{Option, none, some}
+use lib.ListN.{length, getD}
 
--- a drive "holds it", the image, "a start, first zeros, and perhaps a waiting answer"
-pub record Device : Type 0 where
-  pub image : List ℕ
+-- "each with its own start and waiting answer"
+pub record Head : Type 0 where
   pub start : List ℕ
   pub waiting : Option (List ℕ)
+
+-- "two heads share one image"
+pub record Device : Type 0 where
+  pub image : List ℕ
+  pub heads : List Head
+
+abbrev pub headCount : ℕ
+headCount = 2
+
+-- how many a drive has, and head k of it; what stands for a head that is not there
+abbrev pub count : Device → ℕ
+count d = length (d .heads)
+
+abbrev pub absent : Head
+absent = record { start = []; waiting = none }
+
+abbrev pub headAt : Device → ℕ → Head
+headAt d k = getD (d .heads) k absent
 
 -- whether an answer waits, and its bytes
 abbrev pub waits : Option (List ℕ) → Bool
@@ -18,3 +36,8 @@ waits (some a) = true
 abbrev pub answerOf : Option (List ℕ) → List ℕ
 answerOf none = []
 answerOf (some a) = a
+
+-- not so "while either head has a waiting answer"
+abbrev pub idle : List Head → Bool
+idle [] = true
+idle (h ∷ hs) = not (waits (h .waiting)) && idle hs

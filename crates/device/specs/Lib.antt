@@ -1,6 +1,7 @@
--- Request 9: a drive as a value, the calls on it, a run of them, and what its log tells.
+-- Requests 9 and 10: a drive as a value, the calls on it, a run of them, what its log tells, and what each head depends on.
 pub mod Solver
 pub mod Device
 pub mod Call
 pub mod Run
 pub mod Log
+pub mod Apart

@@ -5,4 +5,5 @@ pub mod Next
 pub mod Held
 pub mod Step
 pub mod Run
+pub mod Apart
 pub mod Parts

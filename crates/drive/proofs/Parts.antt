@@ -1,5 +1,5 @@
 -- The parts of a drive as the code cuts them out, and what it writes. Assumes nothing.
-use mathlib.Core.Path.{_≡_, sym, ap, _∙_}
+use mathlib.Core.Path.{_≡_, sym, ap, ap₂, _∙_}
 use mathlib.Core.List.{List}
 use Prim.Native.Nat.{ℕ, _+_, _*_, _-_, _<_, _≤_}
 use native.Mathlib.Nat.{mul-le-mul, le-refl}
@@ -14,6 +14,7 @@ use Rattle.image.specs.declared.Sizes.{Sizes}
 use Rattle.image.specs.Sizes.{Sound, commandCount}
 use Rattle.image.specs.Layout.{sizesOf}
 use Rattle.interface.specs.Calls.{answerLength}
+use Rattle.device.specs.Device.{headCount}
 use Rattle.drive.specs.Layout.{imagePlace, heldLength, startPlace, answerPlace, heldImage, heldCommandCount, heldStart, heldAnswer}
 use Rattle.drive.specs.Move.{movedAt, nextStart}
 use Rattle.drive.specs.Parts.{Found, Moved}
@@ -23,24 +24,26 @@ pub image-part : (d : List ℕ) (r : ℕ) → r ≡ imagePlace + heldLength d �
 unfolding heldImage
 image-part d r e = let n : r - imagePlace ≡ heldLength d = omega (arith, e) in ap (λ (k : ℕ). take k (drop imagePlace d)) n
 
--- the start, up to where it ends
-pub start-part : (d : List ℕ) (r : ℕ) → r ≡ startPlace + 4 * heldCommandCount d → take (r - startPlace) (drop startPlace d) ≡ heldStart d
+-- the start of head k, from where it begins up to where it ends
+pub start-part : (d : List ℕ) (k p r : ℕ) → p ≡ startPlace k → r ≡ startPlace k + 4 * heldCommandCount d → take (r - p) (drop p d) ≡ heldStart d k
 unfolding heldStart
-start-part d r e = let n : r - startPlace ≡ 4 * heldCommandCount d = omega (arith, e) in ap (λ (k : ℕ). take k (drop startPlace d)) n
+start-part d k p r b e =
+    let n : r - p ≡ 4 * heldCommandCount d = omega (arith, b, e) in
+    ap₂ (λ (m q : ℕ). take m (drop q d)) n b
 
 -- the answer, by the held image's sizes
 module _ (d : List ℕ) (z : Sizes) (e : z ≡ sizesOf (heldImage d)) where
-  pub answer-part : take (answerPlace + answerLength z - answerPlace) (drop answerPlace d) ≡ heldAnswer d
+  pub answer-part : (k p : ℕ) → p ≡ answerPlace k → take (p + answerLength z - p) (drop p d) ≡ heldAnswer d k
   unfolding heldAnswer
-  answer-part =
-      let n : answerPlace + answerLength z - answerPlace ≡ answerLength (sizesOf (heldImage d)) = omega (arith, ap commandCount e) in
-      ap (λ (n : ℕ). take n (drop answerPlace d)) n
+  answer-part k p b =
+      let n : p + answerLength z - p ≡ answerLength (sizesOf (heldImage d)) = omega (arith, ap commandCount e) in
+      ap₂ (λ (m q : ℕ). take m (drop q d)) n b
 
-  pub answer-length : Found d → length (heldAnswer d) ≡ answerLength z
+  pub answer-length : Found d → (k : ℕ) → k < headCount → length (heldAnswer d k) ≡ answerLength z
   unfolding heldAnswer
-  answer-length h =
-      let few : heldCommandCount d ≤ 16 = h .whole .sizes .n-high in
-      length-take-le (answerLength (sizesOf (heldImage d))) (drop answerPlace d) (rw (length-drop answerPlace d) (omega (arith, few, h .size))) ∙ ap answerLength (sym e)
+  answer-length f k h =
+      let few : heldCommandCount d ≤ 16 = f .whole .sizes .n-high in
+      length-take-le (answerLength (sizesOf (heldImage d))) (drop (answerPlace k) d) (rw (length-drop (answerPlace k) d) (omega (arith, few, f .size))) ∙ ap answerLength (sym e)
 
 -- the first commands are a part of it
 pub first-within : (z : Sizes) → Sound z → 4 * z .nu ≤ answerLength z

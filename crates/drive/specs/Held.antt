@@ -3,19 +3,23 @@ use Prim.Native.Nat.{ℕ, _*_}
 use mathlib.Core.Bool.{cond}
 use mathlib.Core.List.{List}
 use mathlib.Core.Option.{none, some}
-use lib.Dec.{eqb}
 use lib.ListN.{replicate}
+use Rattle.gradient.specs.Index.{tab}
 use Rattle.image.specs.Sizes.{commandCount}
 use Rattle.image.specs.Layout.{sizesOf}
 use Rattle.interface.specs.Tables.{imageNumber}
 use Rattle.interface.specs.Calls.{solveNumber, solveAnswer}
 use Rattle.device.specs.Solver.{Solver}
-use Rattle.device.specs.Device.{Device}
-use Rattle.drive.specs.Layout.{heldImage, heldStart, heldWaiting, heldAnswer}
+use Rattle.device.specs.Device.{Head, Device, headCount}
+use Rattle.drive.specs.Layout.{heldImage, heldStart, heldAnswer}
 use Rattle.drive.specs.Move.{nextStart, firstLength, firstCommands}
+use Rattle.drive.specs.Calls.{idleAt}
+
+unfoldable pub headOf : List ℕ → ℕ → Head
+headOf d k = record { start = heldStart d k; waiting = cond (idleAt d k) none (some (heldAnswer d k)) }
 
 unfoldable pub deviceOf : List ℕ → Device
-deviceOf d = record { image = heldImage d; start = heldStart d; waiting = cond (eqb (heldWaiting d) 0) none (some (heldAnswer d)) }
+deviceOf d = record { image = heldImage d; heads = tab (headOf d) headCount }
 
 -- "a start, first zeros": 4n bytes, each 0
 unfoldable pub zeroStart : List ℕ → List ℕ

@@ -1,5 +1,5 @@
--- Request 9: where a drive's parts stand in its bytes, and what they hold, of every byte string. Each place is derived from the one before.
--- Bytes of a room that its part does not fill keep what they are. Assumes nothing.
+-- Requests 9 and 10: where a drive's parts stand in its bytes, and what they hold, of every byte string. Each place is derived from the one
+-- before. Bytes of a room that its part does not fill keep what they are. Assumes nothing.
 use Prim.Native.Nat.{ℕ, _+_, _*_, min}
 use mathlib.Core.List.{List}
 use lib.ListN.{take, drop}
@@ -7,6 +7,7 @@ use Rattle.word.specs.Word.{natAt}
 use Rattle.image.specs.Sizes.{commandCount}
 use Rattle.image.specs.Layout.{sizesOf}
 use Rattle.interface.specs.Calls.{answerLength}
+use Rattle.device.specs.Device.{headCount}
 
 -- ---- rooms: of a word, of the largest image, start and answer, which have 16 commands, 12 state and 4 target values
 abbrev pub wordRoom : ℕ
@@ -21,27 +22,43 @@ startRoom = 4 * 16
 abbrev pub answerRoom : ℕ
 answerRoom = 8 * 16 + 8
 
--- ---- places: the image's length, the image, whether an answer waits, the start, the answer
+-- ---- within a head: whether an answer waits, the start, the answer
+abbrev pub startOffset : ℕ
+startOffset = wordRoom
+
+abbrev pub answerOffset : ℕ
+answerOffset = startOffset + startRoom
+
+abbrev pub headRoom : ℕ
+headRoom = answerOffset + answerRoom
+
+-- ---- places: the image's length, the image, then head after head
 abbrev pub lengthPlace : ℕ
 lengthPlace = 0
 
 abbrev pub imagePlace : ℕ
 imagePlace = lengthPlace + wordRoom
 
-abbrev pub waitingPlace : ℕ
-waitingPlace = imagePlace + imageRoom
+abbrev pub headsPlace : ℕ
+headsPlace = imagePlace + imageRoom
 
-abbrev pub startPlace : ℕ
-startPlace = waitingPlace + wordRoom
+abbrev pub headPlace : ℕ → ℕ
+headPlace k = headsPlace + headRoom * k
 
-abbrev pub answerPlace : ℕ
-answerPlace = startPlace + startRoom
+abbrev pub waitingPlace : ℕ → ℕ
+waitingPlace k = headPlace k
+
+abbrev pub startPlace : ℕ → ℕ
+startPlace k = headPlace k + startOffset
+
+abbrev pub answerPlace : ℕ → ℕ
+answerPlace k = headPlace k + answerOffset
 
 abbrev pub driveLength : ℕ
-driveLength = answerPlace + answerRoom
+driveLength = headPlace headCount
 
 -- ---- parts
--- "holds it": the image, as long as its length says, and no longer than its room
+-- "one image", as long as its length says, and no longer than its room
 abbrev pub heldLength : List ℕ → ℕ
 heldLength d = min (natAt d lengthPlace) imageRoom
 
@@ -52,13 +69,13 @@ heldImage d = take (heldLength d) (drop imagePlace d)
 abbrev pub heldCommandCount : List ℕ → ℕ
 heldCommandCount d = commandCount (sizesOf (heldImage d))
 
--- "a start", 4n bytes
-unfoldable pub heldStart : List ℕ → List ℕ
-heldStart d = take (4 * heldCommandCount d) (drop startPlace d)
+-- of head k "its own start", 4n bytes
+unfoldable pub heldStart : List ℕ → ℕ → List ℕ
+heldStart d k = take (4 * heldCommandCount d) (drop (startPlace k) d)
 
--- "perhaps a waiting answer": a word that is 0 where none waits, and the answer's bytes
-unfoldable pub heldWaiting : List ℕ → ℕ
-heldWaiting d = natAt d waitingPlace
+-- "and waiting answer": a word that is 0 where none waits, and the answer's bytes
+unfoldable pub heldWaiting : List ℕ → ℕ → ℕ
+heldWaiting d k = natAt d (waitingPlace k)
 
-unfoldable pub heldAnswer : List ℕ → List ℕ
-heldAnswer d = take (answerLength (sizesOf (heldImage d))) (drop answerPlace d)
+unfoldable pub heldAnswer : List ℕ → ℕ → List ℕ
+heldAnswer d k = take (answerLength (sizesOf (heldImage d))) (drop (answerPlace k) d)

@@ -4,4 +4,5 @@ pub mod Move
 pub mod Calls
 pub mod Held
 pub mod Run
+pub mod Apart
 pub mod Parts

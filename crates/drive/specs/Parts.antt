@@ -11,6 +11,7 @@ use Rattle.image.specs.Sizes.{Whole, commandCount}
 use Rattle.image.specs.Layout.{sizesOf}
 use Rattle.interface.specs.Calls.{answerLength}
 use Rattle.interface.specs.Accepted.{Solvable, Dominant}
+use Rattle.device.specs.Device.{headCount}
 use Rattle.drive.specs.Layout.{driveLength, heldImage, heldStart}
 use Rattle.drive.specs.Move.{movedAt}
 
@@ -19,10 +20,11 @@ pub record Found (d : List ℕ) : Type 0 where
   pub size : length d ≡ driveLength
   pub whole : Whole (sizesOf (heldImage d)) (heldImage d)
 
--- one that passes every check of an ask
-pub record Askable (d state target : List ℕ) (room : ℕ) : Type 0 where
+-- one that passes every check of an ask of head k
+pub record Askable (d : List ℕ) (k : ℕ) (state target : List ℕ) (room : ℕ) : Type 0 where
+  pub inside : k < headCount
   pub size : length d ≡ driveLength
-  pub solves : Solvable (heldImage d) state target (heldStart d)
+  pub solves : Solvable (heldImage d) state target (heldStart d k)
   pub dominant : Dominant (heldImage d)
   pub room-is : room ≡ answerLength (sizesOf (heldImage d))
 

@@ -1,7 +1,11 @@
 // The places of a drive's parts in its bytes, each derived from the one before, as specs/ has them. Beside them the crate is mathematics:
 // the calls on a drive's bytes as definitions in specs/, and in proofs/ that they are the calls on the drive that the bytes hold.
 ghost use mathlib.Core.Path.{_≡_};
-ghost use Rattle.drive.specs.Layout.{driveLength};
+ghost use Prim.Native.Nat.{_<_};
+ghost use Rattle.device.specs.Device.{headCount};
+ghost use Rattle.drive.specs.Layout.{waitingPlace, startPlace, answerPlace};
+
+pub const HEAD_COUNT: usize = 2;
 
 const WORD_ROOM: usize = 4;
 
@@ -11,21 +15,40 @@ const START_ROOM: usize = 4 * 16;
 
 const ANSWER_ROOM: usize = 8 * 16 + 8;
 
+const START_OFFSET: usize = WORD_ROOM;
+
+const ANSWER_OFFSET: usize = START_OFFSET + START_ROOM;
+
+const HEAD_ROOM: usize = ANSWER_OFFSET + ANSWER_ROOM;
+
 pub const LENGTH_PLACE: usize = 0;
 
 pub const IMAGE_PLACE: usize = LENGTH_PLACE + WORD_ROOM;
 
-pub const WAITING_PLACE: usize = IMAGE_PLACE + IMAGE_ROOM;
+const HEADS_PLACE: usize = IMAGE_PLACE + IMAGE_ROOM;
 
-pub const START_PLACE: usize = WAITING_PLACE + WORD_ROOM;
+pub const DRIVE_LENGTH: usize = HEADS_PLACE + HEAD_ROOM * HEAD_COUNT;
 
-pub const ANSWER_PLACE: usize = START_PLACE + START_ROOM;
-
-pub const DRIVE_LENGTH: usize = ANSWER_PLACE + ANSWER_ROOM;
-
-// The length of a drive's buffer.
-pub fn drive_length() -> usize
-    ensures { λ r. ⌜ r ≡ driveLength ⌝ }
+// Where it is said whether an answer of head k waits.
+pub fn waiting_place(k: usize) -> usize
+    requires { ⌜ k < headCount ⌝ }
+    ensures { λ r. ⌜ r ≡ waitingPlace k ⌝ }
 {
-    DRIVE_LENGTH
+    HEADS_PLACE + HEAD_ROOM * k
+}
+
+// Where the start of head k stands.
+pub fn start_place(k: usize) -> usize
+    requires { ⌜ k < headCount ⌝ }
+    ensures { λ r. ⌜ r ≡ startPlace k ⌝ }
+{
+    HEADS_PLACE + HEAD_ROOM * k + START_OFFSET
+}
+
+// Where the answer of head k stands.
+pub fn answer_place(k: usize) -> usize
+    requires { ⌜ k < headCount ⌝ }
+    ensures { λ r. ⌜ r ≡ answerPlace k ⌝ }
+{
+    HEADS_PLACE + HEAD_ROOM * k + ANSWER_OFFSET
 }
