@@ -38,8 +38,9 @@ extern "C" {
 #define GANTRY_ANSWER_BYTES(n) (8 * (size_t)(n) + 8)
 /* What a commit writes: the commands of one step. */
 #define GANTRY_COMMANDS_BYTES(nu) (4 * (size_t)(nu))
-/* A drive, whatever its image. */
-#define GANTRY_DRIVE_BYTES 2484
+/* A drive, whatever its image, and its heads: a head is a number from 0 to GANTRY_HEADS - 1. */
+#define GANTRY_DRIVE_BYTES 2688
+#define GANTRY_HEADS 2
 /* Large enough for every image and every page: n 16, nx 12, nr 4. */
 #define GANTRY_MAX_IMAGE_BYTES GANTRY_IMAGE_BYTES(GANTRY_MAX_COMMANDS, GANTRY_MAX_STATES, GANTRY_MAX_TARGETS)
 #define GANTRY_MAX_PAGE_BYTES GANTRY_PAGE_BYTES(GANTRY_MAX_COMMANDS, GANTRY_MAX_STATES, GANTRY_MAX_TARGETS)
@@ -53,7 +54,7 @@ enum gantry_number {
     GANTRY_ACCEPTED = 0,
     GANTRY_BAD_LINE = 1,       /* sheet: a line is not 22 digits 0-9 A-F and byte 10 */
     GANTRY_WRONG_LINE = 2,     /* sheet: not the kind, row and column due here, or a zero byte of line 01 is not 0 */
-    GANTRY_BAD_SIZE = 3,       /* a size out of its range, nr among them, or image word 7 not 0 */
+    GANTRY_BAD_SIZE = 3,       /* a size out of its range, nr among them, or image word 7 not 0; a head that no drive has */
     GANTRY_BAD_END = 4,        /* sheet: a line missing, or a byte after the last line due */
     GANTRY_BAD_VALUE = 5,      /* NaN, infinity, outside the word once rounded, or a negative limit of state or target */
     GANTRY_BAD_LENGTH = 6,     /* image: fewer than 32 bytes, or not the length that its sizes give */
@@ -68,7 +69,8 @@ enum gantry_number {
     GANTRY_BAD_BUFFER = 15,    /* the buffer to be written, a drive among them, has another length than what is due */
     GANTRY_BAD_TARGET = 16,    /* not nr words, or a value beyond its limit; tested directly after 13 */
     GANTRY_NO_STOP = 17,       /* a command's low limit is above 0 or its high limit below 0; tested directly after 7 */
-    GANTRY_NO_ANSWER = 18      /* a commit without a waiting answer */
+    GANTRY_NO_ANSWER = 18,     /* a commit without a waiting answer */
+    GANTRY_NOT_IDLE = 19       /* a new image, itself acceptable, while either head has a waiting answer */
 };
 
 /* Reads a design sheet and writes its image. image_len must be the image's exact length (15), which is known from the
@@ -108,29 +110,39 @@ uint32_t gantry_solve(const uint8_t *image, size_t image_len, const uint8_t *sta
 
 /* ---- drives: ask first, then commit
  *
- * A drive is a buffer of GANTRY_DRIVE_BYTES that the caller keeps: it holds an image, a start, and perhaps a waiting answer.
- * Its bytes are the library's: make writes all of them, ask and commit go on from there, and nobody else should write them.
- * It holds no pointer, so it may be copied, stored and moved; a copy is a drive of its own. Every byte string is a drive
- * with a defined outcome, proved too: one that was damaged is refused by the checks of the image and start that it then
- * holds, or answered from them. */
+ * A drive is a buffer of GANTRY_DRIVE_BYTES that the caller keeps: it holds an image, and of each of its two heads, pen and
+ * knife, a start and perhaps a waiting answer. Its bytes are the library's: make writes all of them, the other calls go on
+ * from there, and nobody else should write them. It holds no pointer, so it may be copied, stored and moved; a copy is a
+ * drive of its own. Every byte string is a drive with a defined outcome, proved too: one that was damaged is refused by the
+ * checks of the image and start that it then holds, or answered from them.
+ *
+ * The heads share the image and nothing else: what is asked and committed for one, or refused, changes no number, answer or
+ * start of the other, but that an answer that waits keeps a new image away (19). A head other than 0 or 1 is 3, before all
+ * else. A table with one head uses head 0 alone. */
 
-/* Makes a drive of an image, tested as by a solve up to 12: it holds the image and a start of zeros, and no answer waits.
- * All of its bytes are written, whatever it was before. drive_len must be GANTRY_DRIVE_BYTES (15). Numbers: 0, 3, 5 to 12,
- * 15, 17. The image is copied: its own buffer is no longer needed. */
+/* Makes a drive of an image, tested as by a solve up to 12: it holds the image and of both heads a start of zeros, and no
+ * answer waits. All of its bytes are written, whatever it was before. drive_len must be GANTRY_DRIVE_BYTES (15). Numbers: 0,
+ * 3, 5 to 12, 15, 17. The image is copied: its own buffer is no longer needed. */
 uint32_t gantry_make(const uint8_t *image, size_t image_len, uint8_t *drive, size_t drive_len);
 
-/* Solves on the drive's image from its start: number, answer and what is promised of it are those of gantry_solve with this
- * image and start, behind 15 for the drive's length. With 0 the answer, GANTRY_ANSWER_BYTES, is written and kept as the
- * waiting one, in place of an earlier one; the start stays, so asks may be repeated. Numbers of a drive that these calls
- * alone have written: 0, 13, 15, 16; of a damaged one also 3, 5 to 12, 14, 17. */
-uint32_t gantry_ask(uint8_t *drive, size_t drive_len, const uint8_t *state, size_t state_len, const uint8_t *target,
-                    size_t target_len, uint8_t *answer, size_t answer_len);
+/* Solves on the drive's image from the head's start: number, answer and what is promised of it are those of gantry_solve
+ * with this image and start, behind 3 for the head and 15 for the drive's length. With 0 the answer, GANTRY_ANSWER_BYTES, is
+ * written and kept as the head's waiting one, in place of an earlier one; the start stays, so asks may be repeated. Numbers
+ * of a drive that these calls alone have written: 0, 3, 13, 15, 16; of a damaged one also 5 to 12, 14, 17. */
+uint32_t gantry_ask(uint8_t *drive, size_t drive_len, uint32_t head, const uint8_t *state, size_t state_len,
+                    const uint8_t *target, size_t target_len, uint8_t *answer, size_t answer_len);
 
-/* Writes the first nu commands of the waiting answer, GANTRY_COMMANDS_BYTES, for the motors. The rest moves one step
- * forward, the last step is repeated, and each is held to the limits of its new step: that is the drive's next start, and
- * the answer no longer waits. Numbers of a drive that these calls alone have written: 0, 15, 18; of a damaged one also 3
- * and 6. Tested: 15 for the drive's length, the held image's length and sizes (6, 3, 6), 15 for commands_len, 18. */
-uint32_t gantry_commit(uint8_t *drive, size_t drive_len, uint8_t *commands, size_t commands_len);
+/* Writes the first nu commands of the head's waiting answer, GANTRY_COMMANDS_BYTES, for the motors. The rest moves one step
+ * forward, the last step is repeated, and each is held to the limits of its new step: that is the head's next start, and the
+ * answer no longer waits. Numbers of a drive that these calls alone have written: 0, 3, 15, 18; of a damaged one also 6.
+ * Tested: 3 for the head, 15 for the drive's length, the held image's length and sizes (6, 3, 6), 15 for commands_len, 18. */
+uint32_t gantry_commit(uint8_t *drive, size_t drive_len, uint32_t head, uint8_t *commands, size_t commands_len);
+
+/* Replaces the image of a drive, for both heads, while neither has a waiting answer (19): the starts are zeros again, and all
+ * of the drive's bytes are as gantry_make with this image leaves them. It may have other sizes than the one before. Numbers:
+ * those of gantry_make, then 19: an image that is itself refused has its own number, and a wrong drive_len is 15, whether an
+ * answer waits or not. */
+uint32_t gantry_new_image(uint8_t *drive, size_t drive_len, const uint8_t *image, size_t image_len);
 
 #ifdef __cplusplus
 }

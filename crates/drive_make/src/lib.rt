@@ -11,7 +11,7 @@ use drive::IMAGE_PLACE;
 use drive::LENGTH_PLACE;
 
 // The number of the image, then 15 for the drive's length.
-fn make_number(image: &[u8], room: usize) -> u32
+pub fn make_number(image: &[u8], room: usize) -> u32
     ensures { λ r. ⌜ r ≡ makeNumber (now (image .entry)) room ⌝ }
 {
     let number = tables::image_number(image);
@@ -22,7 +22,7 @@ fn make_number(image: &[u8], room: usize) -> u32
 }
 
 // Zeros, then the image and its length.
-fn fill(image: &[u8], drive: &mut [u8])
+pub fn fill(image: &[u8], drive: &mut [u8])
     requires { ⌜ (length (now image) ≤ imageRoom) × (length (now drive) ≡ driveLength) ⌝ }
     ensures { λ _. ⌜ now (drive .exit) ≡ makeDrive (now (image .entry)) ⌝ }
 {
@@ -32,7 +32,7 @@ fn fill(image: &[u8], drive: &mut [u8])
     drive_parts::copy(image, &mut drive[IMAGE_PLACE..IMAGE_PLACE + length]);
 }
 
-// Makes a drive that holds the image and a start of zeros, and no waiting answer.
+// Makes a drive that holds the image and of each head a start of zeros, and no waiting answer.
 pub fn make(image: &[u8], drive: &mut [u8]) -> u32
     ensures number { λ r. ⌜ r ≡ makeNumber (now (image .entry)) (length (now (drive .entry))) ⌝ }
     ensures drive { λ r. ⌜ now (drive .exit) ≡ cond (eqb r 0) (makeDrive (now (image .entry))) (now (drive .entry)) ⌝ }

@@ -1,16 +1,17 @@
 // The parts of a drive in the buffer that the caller lends, and the checks of that buffer.
 ghost use mathlib.Core.Path.{_≡_};
-ghost use Prim.Native.Nat.{_+_, _*_};
+ghost use Prim.Native.Nat.{_+_, _*_, _<_};
 ghost use lib.ListN.{length};
 ghost use Rattle.image.specs.Layout.{sizesOf};
+ghost use Rattle.device.specs.Device.{headCount};
 ghost use Rattle.drive.specs.Layout.{driveLength, imagePlace, startPlace, heldLength, heldImage, heldCommandCount};
 ghost use Rattle.drive.specs.Calls.{partsNumber};
 ghost use Rattle.drive.specs.Parts.{Found};
 use drive::DRIVE_LENGTH;
+use drive::HEAD_COUNT;
 use drive::IMAGE_PLACE;
 use drive::IMAGE_ROOM;
 use drive::LENGTH_PLACE;
-use drive::START_PLACE;
 use image::Sizes;
 
 // The bytes of one buffer, written to another of the same length.
@@ -38,10 +39,13 @@ pub fn image_end(drive: &[u8]) -> usize
     }
 }
 
-// 15 for the drive's length, then the held image's length and sizes.
-pub fn parts_number(drive: &[u8]) -> u32
-    ensures { λ r. ⌜ r ≡ partsNumber (now (drive .entry)) ⌝ }
+// 3 for the head, 15 for the drive's length, then the held image's length and sizes.
+pub fn parts_number(drive: &[u8], k: usize) -> u32
+    ensures { λ r. ⌜ r ≡ partsNumber (now (drive .entry)) k ⌝ }
 {
+    if HEAD_COUNT <= k {
+        return 3;
+    }
     if drive.len() != DRIVE_LENGTH {
         return 15;
     }
@@ -58,11 +62,11 @@ pub fn held_sizes(drive: &[u8]) -> Sizes
     image::sizes_of(&drive[IMAGE_PLACE..end])
 }
 
-// Where the held start ends.
-pub fn start_end(drive: &[u8]) -> usize
-    requires { ⌜ Found (now drive) ⌝ }
-    ensures { λ r. ⌜ r ≡ startPlace + 4 * heldCommandCount (now (drive .entry)) ⌝ }
+// Where the start of head k ends.
+pub fn start_end(drive: &[u8], k: usize) -> usize
+    requires { ⌜ Found (now drive) × (k < headCount) ⌝ }
+    ensures { λ r. ⌜ r ≡ startPlace k + 4 * heldCommandCount (now (drive .entry)) ⌝ }
 {
     let z = held_sizes(drive);
-    START_PLACE + 4 * (z.nu * z.steps)
+    drive::start_place(k) + 4 * (z.nu * z.steps)
 }

@@ -8,7 +8,7 @@ ghost use Rattle.interface.specs.Demand.{Guarantee};
 ghost use Rattle.intake.specs.Intake.{intakeNumber, intakeImage};
 ghost use Rattle.design_page.specs.Page.{pageNumber, sheetPage};
 ghost use Rattle.drive.specs.Layout.{heldImage, heldStart};
-ghost use Rattle.drive.specs.Calls.{makeNumber, makeDrive, askNumber, askAnswer, askDrive, commitNumber, commitAnswer, commitDrive};
+ghost use Rattle.drive.specs.Calls.{makeNumber, makeDrive, newNumber, askNumber, askAnswer, askDrive, commitNumber, commitAnswer, commitDrive};
 
 // Reads a design sheet and writes its image.
 #[no_mangle]
@@ -61,7 +61,7 @@ pub extern "C" fn gantry_solve(
     number
 }
 
-// Makes a drive of an image: it holds the image and a start of zeros, and no answer waits.
+// Makes a drive of an image: it holds the image and of each head a start of zeros, and no answer waits.
 #[no_mangle]
 pub extern "C" fn gantry_make(image: &[u8], drive: &mut [u8]) -> u32
     ensures number { λ r. ⌜ r ≡ makeNumber (now (image .entry)) (length (now (drive .entry))) ⌝ }
@@ -70,28 +70,38 @@ pub extern "C" fn gantry_make(image: &[u8], drive: &mut [u8]) -> u32
     drive_make::make(image, drive)
 }
 
-// Solves on a drive's image from its start, writes the answer, and keeps it as the waiting one.
+// Replaces the image of a drive in which no answer waits, and sets both heads' starts to zero: it is then as made.
+#[no_mangle]
+pub extern "C" fn gantry_new_image(drive: &mut [u8], image: &[u8]) -> u32
+    ensures number { λ r. ⌜ r ≡ newNumber (now (drive .entry)) (now (image .entry)) ⌝ }
+    ensures drive { λ r. ⌜ now (drive .exit) ≡ cond (eqb r 0) (makeDrive (now (image .entry))) (now (drive .entry)) ⌝ }
+{
+    drive_image::new_image(drive, image)
+}
+
+// Solves on a drive's image from a head's start, writes the answer, and keeps it as the head's waiting one.
 #[no_mangle]
 pub extern "C" fn gantry_ask(
     drive: &mut [u8],
+    head: u32,
     state: &[u8],
     target: &[u8],
     answer: &mut [u8],
 ) -> u32
-    ensures number { λ r. ⌜ r ≡ askNumber (now (drive .entry)) (now (state .entry)) (now (target .entry)) (length (now (answer .entry))) ⌝ }
-    ensures answer { λ r. ⌜ now (answer .exit) ≡ cond (eqb r 0) (askAnswer (now (drive .entry)) (now (state .entry)) (now (target .entry))) (now (answer .entry)) ⌝ }
-    ensures drive { λ r. ⌜ now (drive .exit) ≡ cond (eqb r 0) (askDrive (now (drive .entry)) (now (state .entry)) (now (target .entry))) (now (drive .entry)) ⌝ }
-    ensures guarantee { λ r. ⌜ (r ≡ 0 → Guarantee (heldImage (now (drive .entry))) (now (state .entry)) (now (target .entry)) (heldStart (now (drive .entry))) (now (answer .exit))) ⌝ }
+    ensures number { λ r. ⌜ r ≡ askNumber (now (drive .entry)) head (now (state .entry)) (now (target .entry)) (length (now (answer .entry))) ⌝ }
+    ensures answer { λ r. ⌜ now (answer .exit) ≡ cond (eqb r 0) (askAnswer (now (drive .entry)) head (now (state .entry)) (now (target .entry))) (now (answer .entry)) ⌝ }
+    ensures drive { λ r. ⌜ now (drive .exit) ≡ cond (eqb r 0) (askDrive (now (drive .entry)) head (now (state .entry)) (now (target .entry))) (now (drive .entry)) ⌝ }
+    ensures guarantee { λ r. ⌜ (r ≡ 0 → Guarantee (heldImage (now (drive .entry))) (now (state .entry)) (now (target .entry)) (heldStart (now (drive .entry)) head) (now (answer .exit))) ⌝ }
 {
-    drive_ask::ask(drive, state, target, answer)
+    drive_ask::ask(drive, head, state, target, answer)
 }
 
-// Writes the waiting answer's first commands, and moves the rest on as the drive's next start.
+// Writes the first commands of a head's waiting answer, and moves the rest on as its next start.
 #[no_mangle]
-pub extern "C" fn gantry_commit(drive: &mut [u8], commands: &mut [u8]) -> u32
-    ensures number { λ r. ⌜ r ≡ commitNumber (now (drive .entry)) (length (now (commands .entry))) ⌝ }
-    ensures commands { λ r. ⌜ now (commands .exit) ≡ cond (eqb r 0) (commitAnswer (now (drive .entry))) (now (commands .entry)) ⌝ }
-    ensures drive { λ r. ⌜ now (drive .exit) ≡ cond (eqb r 0) (commitDrive (now (drive .entry))) (now (drive .entry)) ⌝ }
+pub extern "C" fn gantry_commit(drive: &mut [u8], head: u32, commands: &mut [u8]) -> u32
+    ensures number { λ r. ⌜ r ≡ commitNumber (now (drive .entry)) head (length (now (commands .entry))) ⌝ }
+    ensures commands { λ r. ⌜ now (commands .exit) ≡ cond (eqb r 0) (commitAnswer (now (drive .entry)) head) (now (commands .entry)) ⌝ }
+    ensures drive { λ r. ⌜ now (drive .exit) ≡ cond (eqb r 0) (commitDrive (now (drive .entry)) head) (now (drive .entry)) ⌝ }
 {
-    drive_commit::commit(drive, commands)
+    drive_commit::commit(drive, head, commands)
 }

@@ -26,8 +26,8 @@ module _ (c : tie.Then1) where
   abbrev start : tie.Start
   start = c .before .before .before .before .before .before .before
 
-  passes : Askable (start .args .drive .now) (start .args .state .now) (start .args .target .now) (length (start .args .answer .now))
-  passes = askable (start .args .drive .now) (start .args .state .now) (start .args .target .now) _ (sym (c .before .ask-number .ensures) ∙ c .if1 .taken)
+  passes : Askable (start .args .drive .now) (start .args .head) (start .args .state .now) (start .args .target .now) (length (start .args .answer .now))
+  passes = askable (start .args .drive .now) (start .args .head) (start .args .state .now) (start .args .target .now) (length (start .args .answer .now)) (sym (c .before .ask-number .ensures) ∙ c .if1 .taken)
 
 ask-number-requires : tie.Need-ask-number-requires
 ask-number-requires c κs = search needs
@@ -39,7 +39,7 @@ keep-requires : tie.Need-keep-requires
 keep-requires c κs =
     let t = c .before .before .before .before .before .before .before in
     let k = passes t in
-    (k .size, omega (arith, k .room-is, k .solves .accepted .whole .sizes .n-high))
+    (k .inside, k .size, omega (arith, k .inside, k .room-is, k .solves .accepted .whole .sizes .n-high))
 
 same-length : tie.Need-same-length
 same-length c = search needs
@@ -59,8 +59,8 @@ returns c =
       (
         rw e w,
         (
-          rw e (c .before .before .keep .ensures ∙ ap (λ (x : List ℕ). putAt (putAt (a .drive .now) answerPlace x) waitingPlace (bytesOf 1)) w),
-          λ _. subst (Guarantee (heldImage (a .drive .now)) (a .state .now) (a .target .now) (heldStart (a .drive .now))) (sym w) (guaranteed (heldImage (a .drive .now)) (a .state .now) (a .target .now) (heldStart (a .drive .now)) (passes t .solves) (passes t .dominant)),
+          rw e (c .before .before .keep .ensures ∙ ap (λ (x : List ℕ). putAt (putAt (a .drive .now) (answerPlace (a .head)) x) (waitingPlace (a .head)) (bytesOf 1)) w),
+          λ _. subst (Guarantee (heldImage (a .drive .now)) (a .state .now) (a .target .now) (heldStart (a .drive .now) (a .head))) (sym w) (guaranteed (heldImage (a .drive .now)) (a .state .now) (a .target .now) (heldStart (a .drive .now) (a .head)) (passes t .solves) (passes t .dominant)),
         ),
       ),
     )

@@ -7,7 +7,7 @@ use lib.ListN.{length, take, drop}
 use Rattle.image.specs.Layout.{sizesOf}
 use Rattle.interface.specs.Calls.{answerLength, solveAnswer}
 use Rattle.interface.specs.Accepted.{Solvable, Dominant}
-use Rattle.drive.specs.Layout.{imagePlace, startPlace, heldImage, heldStart}
+use Rattle.drive.specs.Layout.{imagePlace, heldImage, heldStart}
 use Rattle.drive.specs.Calls.{askAnswer}
 use Rattle.drive.specs.Parts.{Found}
 use Rattle.drive.proofs.Accept.{askable-found}
@@ -17,18 +17,22 @@ use Rattle.drive_ask.proofs.held_solve.Statement.{statement}
 use Rattle.drive_ask.proofs.held_solve.Tie as tie
 use Rattle.drive_ask.proofs.held_solve.Reads as reads
 use Rattle.drive_ask.proofs.held_solve.Lts as lts
+use Rattle.drive.proofs.start_place.Reads as start-place-reads
 use Rattle.drive_parts.proofs.image_end.Reads as image-end-reads
 use Rattle.drive_parts.proofs.start_end.Reads as start-end-reads
 use Rattle.solve.proofs.solve.Reads as solve-reads
 
 holds : (c : tie.Start) → Found (c .args .drive .now)
-holds c = askable-found (c .args .drive .now) (c .args .state .now) (c .args .target .now) _ (c .pre)
+holds c = askable-found (c .args .drive .now) (c .args .k) (c .args .state .now) (c .args .target .now) _ (c .pre)
 
 image-end-requires : tie.Need-image-end-requires
 image-end-requires c κs = search needs
 
+start-place-requires : tie.Need-start-place-requires
+start-place-requires c κs = c .before .before .before .before .before .pre .inside
+
 start-end-requires : tie.Need-start-end-requires
-start-end-requires c κs = holds (c .before .before .before .before .before)
+start-end-requires c κs = let s = c .before .before .before .before .before .before in (holds s, s .pre .inside)
 
 sub-solve : tie.Need-sub-solve
 sub-solve c = search needs
@@ -46,17 +50,22 @@ part-solve-start-2 : tie.Need-part-solve-start-2
 part-solve-start-2 c = search needs
 
 part-solve-end-2 : tie.Need-part-solve-end-2
-part-solve-end-2 c = let h = holds (c .before .before .before .before .before .before .before) in omega (arith, h .size, h .whole .sizes .n-high)
+part-solve-end-2 c =
+    let s = c .before .before .before .before .before .before .before .before in
+    omega (arith, s .pre .inside, s .pre .size, holds s .whole .sizes .n-high)
 
 module _ (c : tie.After-start-end) where
   abbrev s : tie.Start
-  s = c .before .before .before .before .before .before
+  s = c .before .before .before .before .before .before .before
 
-  image-is : take (c .before .image-end .result - imagePlace) (drop imagePlace (s .args .drive .now)) ≡ heldImage (s .args .drive .now)
-  image-is = image-part (s .args .drive .now) (c .before .image-end .result) (c .before .image-end .ensures)
+  abbrev place : ℕ
+  place = c .before .start-place .result
 
-  start-is : take (c .start-end .result - startPlace) (drop startPlace (s .args .drive .now)) ≡ heldStart (s .args .drive .now)
-  start-is = start-part (s .args .drive .now) (c .start-end .result) (c .start-end .ensures)
+  image-is : take (c .before .before .image-end .result - imagePlace) (drop imagePlace (s .args .drive .now)) ≡ heldImage (s .args .drive .now)
+  image-is = image-part (s .args .drive .now) (c .before .before .image-end .result) (c .before .before .image-end .ensures)
+
+  start-is : take (c .start-end .result - place) (drop place (s .args .drive .now)) ≡ heldStart (s .args .drive .now) (s .args .k)
+  start-is = start-part (s .args .drive .now) (s .args .k) place (c .start-end .result) (c .before .start-place .ensures) (c .start-end .ensures)
 
 solve-requires : tie.Need-solve-requires
 solve-requires c κs =
@@ -78,6 +87,7 @@ held-solve-spec =
     tie.close
     (tie.spec
     image-end-requires
+    start-place-requires
     start-end-requires
     sub-solve
     part-solve-start

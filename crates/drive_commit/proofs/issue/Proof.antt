@@ -1,6 +1,6 @@
 -- `drive_commit::issue` meets its contract. Assumes nothing.
 use native.Mathlib.Omega.{arith}
-use mathlib.Core.Path.{_≡_, sym, ap, _∙_}
+use mathlib.Core.Path.{_≡_, sym, ap₂, _∙_}
 use Prim.Native.Nat.{ℕ, _+_, _*_, _-_}
 use lib.ListN.{length, take, drop}
 use lib.Seq.{take-take}
@@ -15,7 +15,11 @@ use Rattle.drive_commit.proofs.issue.Statement.{statement}
 use Rattle.drive_commit.proofs.issue.Tie as tie
 use Rattle.drive_commit.proofs.issue.Reads as reads
 use Rattle.drive_commit.proofs.issue.Lts as lts
+use Rattle.drive.proofs.answer_place.Reads as answer-place-reads
 use Rattle.drive_parts.proofs.copy.Reads as copy-reads
+
+answer-place-requires : tie.Need-answer-place-requires
+answer-place-requires c κs = search needs
 
 add-end : tie.Need-add-end
 add-end c = search needs
@@ -38,15 +42,16 @@ same-length c = search needs
 returns : tie.Need-returns
 unfolding commitAnswer firstCommands heldAnswer
 returns c =
-    let s = c .before .before .before .before .before .before .before in
+    let p = c .before .before .before .before .before .answer-place in
+    let s = c .before .before .before .before .before .before .before .before in
     let d = s .args .drive .now in
     let z = sizesOf (heldImage d) in
-    let n : answerPlace + length (s .args .commands .now) - answerPlace ≡ 4 * z .nu = omega (arith, s .pre .1) in
+    let n : p .result + length (s .args .commands .now) - p .result ≡ 4 * z .nu = omega (arith, s .pre .2) in
     c .before .before .copy .ensures
-    ∙ ap (λ (n : ℕ). take n (drop answerPlace d)) n
-    ∙ sym (take-take (4 * z .nu) (answerLength (sizesOf (heldImage d))) (drop answerPlace d) (first-within z (s .pre .0 .whole .sizes)))
+    ∙ ap₂ (λ (n q : ℕ). take n (drop q d)) n (p .ensures)
+    ∙ sym (take-take (4 * z .nu) (answerLength (sizesOf (heldImage d))) (drop (answerPlace (s .args .k)) d) (first-within z (s .pre .0 .whole .sizes)))
 
 pub issue-spec : {M : Type 1} → statement M
 issue-spec =
     tie.close
-    (tie.spec add-end sub-copy part-copy-start part-copy-end copy-requires same-length returns)
+    (tie.spec answer-place-requires add-end sub-copy part-copy-start part-copy-end copy-requires same-length returns)
