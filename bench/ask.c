@@ -10,7 +10,7 @@ static const char *const names[CALLS] = {"solve", "ask", "commit"};
 
 /* Asks of one drive repeat, since they leave its start as it is. A commit uses up the waiting answer, so each commit of a
  * round has a drive of its own; they are few enough to stay in the fastest cache. */
-enum { DRIVES = 8 };
+enum { DRIVES = 8, HEAD = 0 };
 static uint8_t ready[GANTRY_DRIVE_BYTES]; /* an answer waits in it */
 static uint8_t drives[DRIVES][GANTRY_DRIVE_BYTES];
 
@@ -20,10 +20,10 @@ static uint32_t call(const struct problem *p, int kind, uint8_t *drive, uint8_t 
     case SOLVE:
         return library(p, out);
     case ASK:
-        return gantry_ask(drive, GANTRY_DRIVE_BYTES, p->state, GANTRY_STATE_BYTES(p->nx), p->target,
+        return gantry_ask(drive, GANTRY_DRIVE_BYTES, HEAD, p->state, GANTRY_STATE_BYTES(p->nx), p->target,
                           GANTRY_TARGET_BYTES(p->nr), out, GANTRY_ANSWER_BYTES(p->n));
     default:
-        return gantry_commit(drive, GANTRY_DRIVE_BYTES, out, GANTRY_COMMANDS_BYTES(word(p, 0)));
+        return gantry_commit(drive, GANTRY_DRIVE_BYTES, HEAD, out, GANTRY_COMMANDS_BYTES(word(p, 0)));
     }
 }
 

@@ -4,6 +4,7 @@
 #include <string.h>
 
 #include "gantry.h"
+#include "words.h"
 
 /* Document 01's sample: one motor, one step, one state value, no target, b 4, W 8, three sweeps. */
 static const char sheet[] =
@@ -21,30 +22,11 @@ static uint8_t image[GANTRY_IMAGE_BYTES(COMMANDS, STATES, TARGETS)];
 static uint8_t start[GANTRY_START_BYTES(COMMANDS)];
 static uint8_t answer[GANTRY_ANSWER_BYTES(COMMANDS)];
 
-static void put_word(uint8_t *at, int32_t value)
-{
-    uint32_t bits = (uint32_t)value;
-    for (int i = 0; i < 4; i++)
-        at[i] = (uint8_t)(bits >> (24 - 8 * i));
-}
-
-static uint32_t get_word(const uint8_t *at)
-{
-    return (uint32_t)at[0] << 24 | (uint32_t)at[1] << 16 | (uint32_t)at[2] << 8 | at[3];
-}
-
-/* D: how many counts the commands are from the best sequence at most. It stands behind the commands and their bounds. */
-static uint64_t get_distance(void)
-{
-    const uint8_t *at = answer + 8 * COMMANDS;
-    return (uint64_t)get_word(at) << 32 | get_word(at + 4);
-}
-
 /* One period of the millisecond task. A refusal leaves answer and start as they were: the last commands stay in force. */
 static uint32_t period(int32_t encoder)
 {
     uint8_t state[GANTRY_STATE_BYTES(STATES)];
-    put_word(state, encoder);
+    put_words(state, &encoder, STATES);
     /* With nr 0 the target is empty: any pointer but null, and length 0. */
     uint32_t number = gantry_solve(image, sizeof image, state, sizeof state, state, GANTRY_TARGET_BYTES(TARGETS),
                                    start, sizeof start, answer, sizeof answer);
@@ -68,8 +50,8 @@ int main(void)
         if (number != GANTRY_ACCEPTED)
             printf("%d refused %02u\n", (int)encoder[k], (unsigned)number);
         else
-            printf("%d %d %u %llu\n", (int)encoder[k], (int)(int32_t)get_word(answer), (unsigned)get_word(answer + 4 * COMMANDS),
-                   (unsigned long long)get_distance());
+            printf("%d %d %u %llu\n", (int)encoder[k], get_command(answer, 0), (unsigned)get_word(answer + 4 * COMMANDS),
+                   get_distance(answer, COMMANDS));
     }
     return 0;
 }

@@ -7,31 +7,17 @@
 #include <string.h>
 
 #include "gantry.h"
+#include "words.h"
 
 enum { MOTORS = 2, STEPS = 3, COMMANDS = MOTORS * STEPS, STATES = 2, TARGETS = 2 };
 enum { LINE = 23, LINES = 1 + GANTRY_DESIGN_NUMBERS(COMMANDS, STATES, TARGETS) }; /* of the sheet */
 enum { POINTS = 5, PERIODS = POINTS + 1 };
+enum { HEAD = 0 }; /* the one head that this table has; a drive has room for a second */
 
 static uint8_t drive[GANTRY_DRIVE_BYTES];
 static uint8_t answer[GANTRY_ANSWER_BYTES(COMMANDS)];   /* what the panel shows */
 static uint8_t commands[GANTRY_COMMANDS_BYTES(MOTORS)]; /* what the motors get */
 static int32_t head[STATES] = {1024, 1024};             /* the plant: the place along each motor's axis */
-
-static void put_words(uint8_t *at, const int32_t *values, int count)
-{
-    for (int i = 0; i < 4 * count; i++)
-        at[i] = (uint8_t)((uint32_t)values[i / 4] >> (24 - 8 * (i % 4)));
-}
-
-static uint32_t get_word(const uint8_t *at)
-{
-    return (uint32_t)at[0] << 24 | (uint32_t)at[1] << 16 | (uint32_t)at[2] << 8 | at[3];
-}
-
-static int get_command(const uint8_t *from, int k)
-{
-    return (int32_t)get_word(from + 4 * k);
-}
 
 /* ---- before the first period */
 
@@ -58,14 +44,14 @@ static int sequence_end(int motor)
 
 static void show(const char *what, const int32_t *target)
 {
-    const uint8_t *bounds = answer + 4 * COMMANDS, *distance = answer + 8 * COMMANDS;
+    const uint8_t *bounds = answer + 4 * COMMANDS;
     printf("  %-7s%7d%6d", what, (int)target[0], (int)target[1]);
     for (int step = 0; step < STEPS; step++)
         printf("%8d%6d", get_command(answer, MOTORS * step), get_command(answer, MOTORS * step + 1));
     printf("  ");
     for (int k = 0; k < COMMANDS; k++)
         printf(" %u", (unsigned)get_word(bounds + 4 * k));
-    printf("%4llu", (unsigned long long)get_word(distance) << 32 | get_word(distance + 4));
+    printf("%4llu", get_distance(answer, COMMANDS));
     printf("%9d%6d\n", sequence_end(0), sequence_end(1));
 }
 
@@ -74,7 +60,7 @@ static uint32_t ask(const int32_t *target)
     uint8_t state[GANTRY_STATE_BYTES(STATES)], point[GANTRY_TARGET_BYTES(TARGETS)];
     put_words(state, head, STATES);
     put_words(point, target, TARGETS);
-    uint32_t number = gantry_ask(drive, sizeof drive, state, sizeof state, point, sizeof point, answer, sizeof answer);
+    uint32_t number = gantry_ask(drive, sizeof drive, HEAD, state, sizeof state, point, sizeof point, answer, sizeof answer);
     if (number == GANTRY_ACCEPTED)
         show("ask", target);
     else
@@ -101,7 +87,7 @@ static void panel(const int32_t *seam)
  * anybody has looked. Zero stops it, and is within the limits of every accepted image (number 17). */
 static uint32_t commit_or_stop(void)
 {
-    uint32_t number = gantry_commit(drive, sizeof drive, commands, sizeof commands);
+    uint32_t number = gantry_commit(drive, sizeof drive, HEAD, commands, sizeof commands);
     if (number != GANTRY_ACCEPTED)
         memset(commands, 0, sizeof commands);
     return number;
