@@ -1,17 +1,19 @@
 //! Document 01's cases at the edges as one table, the starred ones among them, and a few of our own behind them: edges
-//! that it implies, and those of requests 1 to 9. The figures of ours are worked out by hand from the papers. Solves that
-//! come to rest are a table of their own, and so are the scripts of request 9.
+//! that it implies, and those of requests 1 to 10. The figures of ours are worked out by hand from the papers. Solves
+//! that come to rest are a table of their own, and so are the scripts of requests 9 and 10.
 
 mod distance;
+mod heads;
 mod made;
 mod nearest;
 mod rest;
+mod script;
 mod stop;
 mod sums;
 
-pub use made::{Script, answers, run_script, scripts};
 pub use nearest::with_ties;
 pub use rest::{Rest, rests, table as at_rest};
+pub use script::{Script, answers, run_script};
 
 use crate::double::of_count;
 use crate::draft::{Draft, keep_former, text};
@@ -199,6 +201,12 @@ pub fn table() -> Vec<Case> {
     table.extend(other_pages());
     table.extend(no_pages());
     table
+}
+
+/// Those of requests 9 and 10, and each once more with the heads exchanged.
+pub fn scripts() -> Vec<Script> {
+    let all = || made::scripts().into_iter().chain(heads::scripts());
+    all().chain(all().map(Script::exchanged)).collect()
 }
 
 fn of_document_01() -> Vec<Case> {

@@ -2,8 +2,9 @@
 
 use crate::double::{self, Rounding};
 use crate::image::{Number, bytes};
+use crate::made::{self, MADE_LEN};
 use crate::rules::Rules;
-use crate::{made, page, sheet, solve};
+use crate::{page, sheet, solve};
 
 #[derive(Clone, Copy, Debug, PartialEq, Eq)]
 pub enum Kind {
@@ -14,15 +15,16 @@ pub enum Kind {
     Make,
     Ask,
     Commit,
+    NewImage,
     ToWord,
     Inward,
     ToDouble,
 }
 
 impl Kind {
-    /// Is it one of request 9's, which have a made drive beside the other buffers?
+    /// Is it one of requests 9 and 10, which have a made drive beside the other buffers?
     pub fn is_on_made(self) -> bool {
-        matches!(self, Kind::Make | Kind::Ask | Kind::Commit)
+        matches!(self, Kind::Make | Kind::Ask | Kind::Commit | Kind::NewImage)
     }
 
     pub fn name(self) -> &'static str {
@@ -34,6 +36,7 @@ impl Kind {
             Kind::Make => "make",
             Kind::Ask => "ask",
             Kind::Commit => "commit",
+            Kind::NewImage => "new_image",
             Kind::ToWord => "to_word",
             Kind::Inward => "inward",
             Kind::ToDouble => "to_double",
@@ -44,9 +47,9 @@ impl Kind {
     pub fn arguments(self) -> (&'static [&'static str], &'static [&'static str]) {
         match self {
             Kind::Intake | Kind::Page => (&[], &["sheet"]),
-            Kind::ColdStart | Kind::Make => (&[], &["image"]),
-            Kind::Ask => (&[], &["state", "target"]),
-            Kind::Commit => (&[], &[]),
+            Kind::ColdStart | Kind::Make | Kind::NewImage => (&[], &["image"]),
+            Kind::Ask => (&["head"], &["state", "target"]),
+            Kind::Commit => (&["head"], &[]),
             Kind::Solve => (&[], &["image", "state", "target", "start"]),
             Kind::ToWord => (&["bits", "b", "w", "how"], &[]),
             Kind::Inward => (&["low_bits", "high_bits", "b", "w"], &[]),
@@ -71,23 +74,69 @@ impl Call {
         Call { kind, numbers: Vec::new(), inputs, made: Vec::new(), out_len }
     }
 
-    /// A make writes to the drive alone, and has no output buffer.
-    pub fn on_made(kind: Kind, made: Vec<u8>, inputs: &[&[u8]], out_len: usize) -> Call {
-        Call { made, ..Call::on_buffers(kind, inputs, out_len) }
-    }
-
     pub fn on_numbers(kind: Kind, numbers: &[u64]) -> Call {
         let out_len = if kind == Kind::ToWord { 4 } else { 8 };
         Call { kind, numbers: numbers.to_vec(), inputs: Vec::new(), made: Vec::new(), out_len }
     }
 
+    pub fn lent(&self) -> Vec<&[u8]> {
+        self.inputs.iter().map(Vec::as_slice).collect()
+    }
+
     /// What the papers say of it.
     pub fn outcome(&self) -> Outcome {
-        let inputs: Vec<&[u8]> = self.inputs.iter().map(Vec::as_slice).collect();
         if self.kind.is_on_made() {
-            return made::outcome(self.kind, &self.made, &inputs, self.out_len);
+            return made::outcome(self.kind, &self.numbers, &self.made, &self.lent(), self.out_len);
         }
-        outcome(self.kind, &self.numbers, &inputs, self.out_len, Rules::default())
+        outcome(self.kind, &self.numbers, &self.lent(), self.out_len, Rules::default())
+    }
+}
+
+/// A call on a made drive, without that drive.
+#[derive(Clone)]
+pub struct Act {
+    pub kind: Kind,
+    /// Of an ask and of a commit.
+    pub head: Option<u32>,
+    pub inputs: Vec<Vec<u8>>,
+    pub out_len: usize,
+    /// The length of the drive that it is made on.
+    pub made_len: usize,
+}
+
+impl Act {
+    fn new(kind: Kind, head: Option<u32>, inputs: &[&[u8]], out_len: usize) -> Act {
+        let inputs = inputs.iter().map(|input| input.to_vec()).collect();
+        Act { kind, head, inputs, out_len, made_len: MADE_LEN }
+    }
+
+    /// It writes to the drive alone, and has no output buffer, as a new image.
+    pub fn make(image: &[u8]) -> Act {
+        Act::new(Kind::Make, None, &[image], 0)
+    }
+
+    pub fn new_image(image: &[u8]) -> Act {
+        Act::new(Kind::NewImage, None, &[image], 0)
+    }
+
+    pub fn ask(head: u32, [state, target]: [&[u8]; 2], answer_len: usize) -> Act {
+        Act::new(Kind::Ask, Some(head), &[state, target], answer_len)
+    }
+
+    pub fn commit(head: u32, commands_len: usize) -> Act {
+        Act::new(Kind::Commit, Some(head), &[], commands_len)
+    }
+
+    pub fn length(self, made_len: usize) -> Act {
+        Act { made_len, ..self }
+    }
+
+    /// The call on this drive, or on one of another length that has its bytes as far as they reach.
+    pub fn on(&self, made: &[u8]) -> Call {
+        let mut made = made.to_vec();
+        made.resize(self.made_len, 0x3C);
+        let numbers = self.head.map(u64::from).into_iter().collect();
+        Call { kind: self.kind, numbers, inputs: self.inputs.clone(), made, out_len: self.out_len }
     }
 }
 
@@ -103,9 +152,9 @@ pub struct Outcome {
 pub trait Drive {
     fn call(&self, kind: Kind, numbers: &[u64], inputs: &[&[u8]], out: &mut [u8]) -> Number;
 
-    /// Request 9's calls. Those of other requests' false economies are right.
-    fn call_made(&self, kind: Kind, made: &mut [u8], inputs: &[&[u8]], out: &mut [u8]) -> Number {
-        made::call(kind, made, inputs, out)
+    /// The calls of requests 9 and 10. Those of other requests' false economies are right.
+    fn call_made(&self, kind: Kind, numbers: &[u64], made: &mut [u8], inputs: &[&[u8]], out: &mut [u8]) -> Number {
+        made::call(kind, numbers, made, inputs, out)
     }
 }
 
@@ -198,6 +247,7 @@ mod linked {
         fn gantry_ask(
             drive: *mut u8,
             drive_len: usize,
+            head: u32,
             state: *const u8,
             state_len: usize,
             target: *const u8,
@@ -205,7 +255,8 @@ mod linked {
             answer: *mut u8,
             answer_len: usize,
         ) -> u32;
-        fn gantry_commit(drive: *mut u8, drive_len: usize, commands: *mut u8, commands_len: usize) -> u32;
+        fn gantry_commit(drive: *mut u8, drive_len: usize, head: u32, commands: *mut u8, commands_len: usize) -> u32;
+        fn gantry_new_image(drive: *mut u8, drive_len: usize, image: *const u8, image_len: usize) -> u32;
     }
 
     /// The static library.
@@ -237,17 +288,26 @@ mod linked {
             }
         }
 
-        fn call_made(&self, kind: Kind, made: &mut [u8], inputs: &[&[u8]], out: &mut [u8]) -> Number {
+        fn call_made(&self, kind: Kind, numbers: &[u64], made: &mut [u8], inputs: &[&[u8]], out: &mut [u8]) -> Number {
             let (drive, length) = (made.as_mut_ptr(), made.len());
             let (to, room) = (out.as_mut_ptr(), out.len());
             // SAFETY: every pointer comes with the length of the slice it was taken from.
             unsafe {
-                match (kind, inputs) {
-                    (Kind::Make, [image]) => gantry_make(image.as_ptr(), image.len(), drive, length),
-                    (Kind::Ask, [state, target]) => {
-                        gantry_ask(drive, length, state.as_ptr(), state.len(), target.as_ptr(), target.len(), to, room)
-                    }
-                    (Kind::Commit, []) => gantry_commit(drive, length, to, room),
+                match (kind, numbers, inputs) {
+                    (Kind::Make, [], [image]) => gantry_make(image.as_ptr(), image.len(), drive, length),
+                    (Kind::Ask, &[head], [state, target]) => gantry_ask(
+                        drive,
+                        length,
+                        head as u32,
+                        state.as_ptr(),
+                        state.len(),
+                        target.as_ptr(),
+                        target.len(),
+                        to,
+                        room,
+                    ),
+                    (Kind::Commit, &[head], []) => gantry_commit(drive, length, head as u32, to, room),
+                    (Kind::NewImage, [], [image]) => gantry_new_image(drive, length, image.as_ptr(), image.len()),
                     _ => panic!("{kind:?} with other arguments than its own"),
                 }
             }

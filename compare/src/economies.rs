@@ -1,5 +1,5 @@
-//! The false economies and lazy drives of document 01, those of requests 1 to 9, and those that end a solve too early.
-//! Each must be found on the table of cases: a comparison that cannot fail is worthless.
+//! The false economies and lazy drives of document 01, those of requests 1 to 10, and those that end a solve too
+//! early. Each must be found on the table of cases: a comparison that cannot fail is worthless.
 
 mod distance;
 mod labels;

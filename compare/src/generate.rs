@@ -22,6 +22,7 @@ pub const MAKE_NUMBERS: [Number; 11] = COLD_START_NUMBERS;
 /// Those of the image and of the start where something else than the calls wrote to the drive.
 pub const ASK_NUMBERS: [Number; 14] = SOLVE_NUMBERS;
 pub const COMMIT_NUMBERS: [Number; 4] = [6, 3, 15, 18];
+pub const NEW_IMAGE_NUMBERS: [Number; 12] = [3, 5, 6, 7, 17, 8, 9, 10, 11, 12, 15, 19];
 pub const LABEL_NUMBERS: [Number; 14] = [1, 2, 3, 4, 5, 7, 17, 8, 9, 10, 11, 12, 13, 16];
 pub const PAGE_PROGRAM_NUMBERS: [Number; 12] = [1, 2, 3, 4, 5, 7, 17, 8, 9, 10, 11, 12];
 /// Those of the tables.
@@ -477,6 +478,13 @@ pub fn largest_case(random: &mut Random, plan: &Plan) -> SolveCase {
     case_of_sizes(random, plan, sizes)
 }
 
+/// An image alone and the draft it was made from, of these sizes or of any.
+pub fn image_case(random: &mut Random, plan: &Plan, sizes: Option<Sizes>) -> (Draft, Vec<u8>) {
+    let sizes = sizes.unwrap_or_else(|| plan.sizes(random));
+    let case = case_of_sizes(random, plan, sizes);
+    (case.draft, case.image)
+}
+
 /// The image of a draft, both spoilt as planned.
 pub fn image_of(random: &mut Random, plan: &Plan, draft: &mut Draft) -> Vec<u8> {
     for &number in &plan.numbers {
@@ -573,6 +581,14 @@ pub fn commands_len(random: &mut Random, sizes: &Sizes) -> usize {
     let n = sizes.commands();
     let other = other_size(random, 4 * sizes.motors);
     random.pick(&[other, other, 4 * n, 4 * sizes.steps, 8 * sizes.motors, solve::answer_len(n)])
+}
+
+/// A head that no drive has. Cut to fewer bits some are 0 or 1.
+pub fn other_head(random: &mut Random) -> u32 {
+    let any = random.next() as u32 | 2;
+    let low = random.below(2) as u32;
+    let cut = random.pick(&[1 << 8, 1 << 16, 1 << 24, 1 << 31, any & !0xFF | 1 << 9]) + low;
+    random.pick(&[2, 2, 3, 4, 255, cut, cut, u32::MAX, u32::MAX - 1, any])
 }
 
 fn spoil_header(random: &mut Random, sizes: &Sizes, image: &mut [u8]) {

@@ -14,8 +14,8 @@ use crate::sheet::{self, hex, number_of};
 
 const GUARD: u8 = 0xA5;
 const GUARD_LEN: usize = 32;
-/// 0 to 18.
-pub const NUMBERS: usize = 19;
+/// 0 to 19.
+pub const NUMBERS: usize = 20;
 /// Failures printed in full; later ones are only counted.
 const PRINTED: u64 = 5;
 
@@ -67,7 +67,7 @@ fn observe(drive: &dyn Drive, call: &Call) -> Result<Outcome, String> {
     let (mut made, mut out) = (Lent::new(&call.made), Lent::new(&before));
     let lent: Vec<&[u8]> = inputs.iter().map(Lent::content).collect();
     let number = if call.kind.is_on_made() {
-        drive.call_made(call.kind, made.content_mut(), &lent, out.content_mut())
+        drive.call_made(call.kind, &call.numbers, made.content_mut(), &lent, out.content_mut())
     } else {
         drive.call(call.kind, &call.numbers, &lent, out.content_mut())
     };
@@ -100,11 +100,13 @@ pub struct Harness<'a> {
     pub inputs: BTreeSet<(i64, i64)>,
     /// The nu and N of those whose limits change from step to step.
     pub changing: BTreeSet<(i64, i64)>,
-    /// The nu and N of made drives whose answers were committed in random runs.
-    pub committed: BTreeSet<(usize, usize)>,
+    /// The head, and the nu and N of made drives whose answers were committed in random runs.
+    pub committed: BTreeSet<(u32, usize, usize)>,
+    /// The nu and N of new images in them.
+    pub renewed: BTreeSet<(usize, usize)>,
     /// How often a random solve lay at an edge of check 12 or 17, came to rest in some way, had a D or an optimum of
     /// some kind, or was another than before request 4 or 6, a random sheet another than before request 7, and a random
-    /// run came by an edge of request 9.
+    /// run came by an edge of request 9 or 10.
     pub edges: BTreeMap<&'static str, u64>,
     /// What became of the numbers of tables in random sheets.
     pub tables: BTreeSet<TableEdge>,
@@ -130,6 +132,7 @@ impl<'a> Harness<'a> {
             inputs: BTreeSet::new(),
             changing: BTreeSet::new(),
             committed: BTreeSet::new(),
+            renewed: BTreeSet::new(),
             edges: BTreeMap::new(),
             tables: BTreeSet::new(),
             marks: BTreeSet::new(),
@@ -194,10 +197,12 @@ impl<'a> Harness<'a> {
     }
 
     /// Of a drive that only the calls wrote.
-    pub fn cover_commit(&mut self, sizes: &Sizes) {
-        if self.is_random() {
-            self.committed.insert((sizes.motors, sizes.steps));
-        }
+    pub fn cover_commit(&mut self, head: u32, sizes: &Sizes) {
+        self.committed.insert((head, sizes.motors, sizes.steps));
+    }
+
+    pub fn cover_new_image(&mut self, sizes: &Sizes) {
+        self.renewed.insert((sizes.motors, sizes.steps));
     }
 
     fn cover_edges(&mut self, problem: &Problem, number: Number) {

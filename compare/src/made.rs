@@ -1,4 +1,5 @@
-//! Request 9: a made drive, which is a buffer of the caller's, and the calls make, ask and commit on its bytes.
+//! Requests 9 and 10: a made drive, which is a buffer of the caller's, and the calls make, ask, commit and new image on
+//! its bytes.
 
 use std::ops::Range;
 
@@ -7,17 +8,22 @@ use crate::image::{HEADER_WORDS, HIGH, LOW, Number, Sizes, bytes, open, read_siz
 use crate::rules::Rules;
 use crate::solve::{answer_len, solve_call};
 
-/// Where its parts begin: behind the length of the image the image, a word that is 0 where no answer waits, the start
-/// and the answer. Each part has room for that of the largest image.
+/// Where its parts begin: behind the length of the image the image, and then for each head a word that is 0 where no
+/// answer waits, the start and the answer. Each part has room for that of the largest image.
 pub const IMAGE: usize = 4;
-pub const WAITS: usize = 2280;
-pub const START: usize = 2284;
-pub const ANSWER: usize = 2348;
-pub const MADE_LEN: usize = 2484;
+pub const WAITS: [usize; HEADS] = [2280, 2484];
+pub const START: [usize; HEADS] = [2284, 2488];
+pub const ANSWER: [usize; HEADS] = [2348, 2552];
+pub const MADE_LEN: usize = 2688;
+
+/// Head 0 and head 1.
+pub const HEADS: usize = 2;
+/// The room of the image.
+pub const IMAGE_ROOM: Range<usize> = IMAGE..WAITS[0];
 
 /// Makes the call on its buffers, all of which it leaves with another number than 0.
-pub fn call(kind: Kind, made: &mut [u8], inputs: &[&[u8]], out: &mut [u8]) -> Number {
-    let outcome = outcome(kind, made, inputs, out.len());
+pub fn call(kind: Kind, numbers: &[u64], made: &mut [u8], inputs: &[&[u8]], out: &mut [u8]) -> Number {
+    let outcome = outcome(kind, numbers, made, inputs, out.len());
     made.copy_from_slice(&outcome.made);
     if let Some(written) = outcome.written {
         out.copy_from_slice(&written);
@@ -26,17 +32,22 @@ pub fn call(kind: Kind, made: &mut [u8], inputs: &[&[u8]], out: &mut [u8]) -> Nu
 }
 
 /// What the papers say of a call on a made drive.
-pub fn outcome(kind: Kind, made: &[u8], inputs: &[&[u8]], out_len: usize) -> Outcome {
-    let result = match (kind, inputs) {
-        (Kind::Make, &[image]) => make(image, made.len()).map(|made| (made, None)),
-        (Kind::Ask, &[state, target]) => ask(made, [state, target], out_len).map(both),
-        (Kind::Commit, []) => commit(made, out_len).map(both),
+pub fn outcome(kind: Kind, numbers: &[u64], made: &[u8], inputs: &[&[u8]], out_len: usize) -> Outcome {
+    let result = match (kind, numbers, inputs) {
+        (Kind::Make, [], &[image]) => make(image, made.len()).map(alone),
+        (Kind::NewImage, [], &[image]) => new_image(made, image).map(alone),
+        (Kind::Ask, &[head], &[state, target]) => ask(made, head, [state, target], out_len).map(both),
+        (Kind::Commit, &[head], []) => commit(made, head, out_len).map(both),
         _ => panic!("{kind:?} with other arguments than its own"),
     };
     match result {
         Ok((made, written)) => Outcome { number: 0, written, made },
         Err(number) => Outcome { number, written: None, made: made.to_vec() },
     }
+}
+
+fn alone(made: Vec<u8>) -> (Vec<u8>, Option<Vec<u8>>) {
+    (made, None)
 }
 
 fn both((made, written): (Vec<u8>, Vec<u8>)) -> (Vec<u8>, Option<Vec<u8>>) {
@@ -55,37 +66,54 @@ fn make(image: &[u8], made_len: usize) -> Result<Vec<u8>, Number> {
     Ok(made)
 }
 
-/// The drive with this answer waiting, and the answer.
-fn ask(made: &[u8], [state, target]: [&[u8]; 2], out_len: usize) -> Result<(Vec<u8>, Vec<u8>), Number> {
+/// The same, and then 19. Of the drive the two waiting words alone count.
+fn new_image(made: &[u8], image: &[u8]) -> Result<Vec<u8>, Number> {
+    let new = make(image, made.len())?;
+    if (0..HEADS).any(|head| waits(made, head)) { Err(19) } else { Ok(new) }
+}
+
+/// The drive with this answer waiting at the head, and the answer.
+fn ask(made: &[u8], head: u64, [state, target]: [&[u8]; 2], out_len: usize) -> Result<(Vec<u8>, Vec<u8>), Number> {
+    let head = read_head(head)?;
     let held = Held::of(made)?;
     // An image without sizes is refused before its start is looked at.
-    let start = held.sizes().map_or(&[][..], |sizes| &made[start_part(&sizes)]);
+    let start = held.sizes().map_or(&[][..], |sizes| &made[start_part(head, &sizes)]);
     let answer = solve_call([held.image, state, target, start], out_len, Rules::default())?;
     let mut made = made.to_vec();
-    made[ANSWER..ANSWER + answer.len()].copy_from_slice(&answer);
-    put_waits(&mut made, 1);
+    made[ANSWER[head]..ANSWER[head] + answer.len()].copy_from_slice(&answer);
+    put_waits(&mut made, head, 1);
     Ok((made, answer))
 }
 
-/// The drive with the next start, and the first step of the answer that waited.
-fn commit(made: &[u8], out_len: usize) -> Result<(Vec<u8>, Vec<u8>), Number> {
+/// The drive with the head's next start, and the first step of its answer that waited.
+fn commit(made: &[u8], head: u64, out_len: usize) -> Result<(Vec<u8>, Vec<u8>), Number> {
+    let head = read_head(head)?;
     let held = Held::of(made)?;
     let sizes = held.sizes()?;
     if out_len != 4 * sizes.motors {
         return Err(15);
     }
-    if !waits(made) {
+    if !waits(made, head) {
         return Err(18);
     }
-    let commands = &made[ANSWER..ANSWER + 4 * sizes.commands()];
+    let commands = &made[commands_part(head, &sizes)];
     let (first, rest) = commands.split_at(4 * sizes.motors);
     let last = &commands[commands.len() - first.len()..];
     let moved = words(&[rest, last].concat());
     let start: Vec<i64> = moved.into_iter().zip(held.limits(&sizes)).map(|(word, limits)| hold(word, limits)).collect();
     let mut new = made.to_vec();
-    new[start_part(&sizes)].copy_from_slice(&bytes(&start));
-    put_waits(&mut new, 0);
+    new[start_part(head, &sizes)].copy_from_slice(&bytes(&start));
+    put_waits(&mut new, head, 0);
     Ok((new, first.to_vec()))
+}
+
+/// Any other head is 3, before all else.
+fn read_head(head: u64) -> Result<usize, Number> {
+    match head {
+        0 => Ok(0),
+        1 => Ok(1),
+        _ => Err(3),
+    }
 }
 
 /// The low is tested first. In a drive that only the calls wrote no low is above its high, and the order is all one.
@@ -109,7 +137,7 @@ impl Held<'_> {
             return Err(15);
         }
         let length = word_at(made, 0) as usize;
-        Ok(Held { image: &made[IMAGE..(IMAGE + length).min(WAITS)] })
+        Ok(Held { image: &made[IMAGE..(IMAGE + length).min(IMAGE_ROOM.end)] })
     }
 
     pub fn sizes(&self) -> Result<Sizes, Number> {
@@ -128,18 +156,40 @@ pub fn word_at(made: &[u8], at: usize) -> u32 {
     u32::from_be_bytes(made[at..at + 4].try_into().unwrap())
 }
 
-pub fn waits(made: &[u8]) -> bool {
-    word_at(made, WAITS) != 0
+pub fn waits(made: &[u8], head: usize) -> bool {
+    word_at(made, WAITS[head]) != 0
 }
 
-pub fn put_waits(made: &mut [u8], word: u32) {
-    made[WAITS..START].copy_from_slice(&word.to_be_bytes());
+pub fn put_waits(made: &mut [u8], head: usize, word: u32) {
+    made[waits_part(head)].copy_from_slice(&word.to_be_bytes());
 }
 
-pub fn start_part(sizes: &Sizes) -> Range<usize> {
-    START..START + 4 * sizes.commands()
+pub fn waits_part(head: usize) -> Range<usize> {
+    WAITS[head]..START[head]
 }
 
-pub fn answer_part(sizes: &Sizes) -> Range<usize> {
-    ANSWER..ANSWER + answer_len(sizes.commands())
+pub fn start_part(head: usize, sizes: &Sizes) -> Range<usize> {
+    START[head]..START[head] + 4 * sizes.commands()
+}
+
+pub fn answer_part(head: usize, sizes: &Sizes) -> Range<usize> {
+    ANSWER[head]..ANSWER[head] + answer_len(sizes.commands())
+}
+
+pub fn commands_part(head: usize, sizes: &Sizes) -> Range<usize> {
+    ANSWER[head]..ANSWER[head] + 4 * sizes.commands()
+}
+
+/// The rooms of the start and of the answer.
+pub fn start_room(head: usize) -> Range<usize> {
+    START[head]..ANSWER[head]
+}
+
+pub fn answer_room(head: usize) -> Range<usize> {
+    ANSWER[head]..head_part(head).end
+}
+
+/// All that a head has of its own.
+pub fn head_part(head: usize) -> Range<usize> {
+    WAITS[head]..WAITS.get(head + 1).copied().unwrap_or(MADE_LEN)
 }

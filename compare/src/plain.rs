@@ -1,14 +1,21 @@
-//! Request 9 without bytes: what a made drive holds by the calls alone, and the start that a run of them counts.
+//! Requests 9 and 10 without bytes: what a made drive holds by the calls alone, and the starts that a run of them
+//! counts.
 
+use crate::drive::Kind;
 use crate::image::{Number, Problem, Sizes, bytes, open};
-use crate::made::MADE_LEN;
+use crate::made::{HEADS, MADE_LEN};
 use crate::rules::Rules;
 use crate::solve::{Answer, answer, answer_len, read_state, read_target};
 
-/// The image, the start, and perhaps a waiting answer.
+/// The image, which the heads share, and what each of them has of its own.
 pub struct Plain {
     pub image: Vec<u8>,
     pub problem: Problem,
+    pub heads: [Head; HEADS],
+}
+
+/// A start, and perhaps a waiting answer.
+pub struct Head {
     pub start: Vec<i64>,
     pub waiting: Option<Answer>,
 }
@@ -16,29 +23,37 @@ pub struct Plain {
 impl Plain {
     pub fn make(image: &[u8], made_len: usize) -> Result<Plain, Number> {
         let problem = open(image, Rules::default())?;
-        let start = vec![0; problem.sizes.commands()];
-        if made_len == MADE_LEN { Ok(Plain { image: image.to_vec(), problem, start, waiting: None }) } else { Err(15) }
+        let n = problem.sizes.commands();
+        let heads = [0; HEADS].map(|_| Head { start: vec![0; n], waiting: None });
+        if made_len == MADE_LEN { Ok(Plain { image: image.to_vec(), problem, heads }) } else { Err(15) }
+    }
+
+    /// Is a new image 19?
+    pub fn waits(&self) -> bool {
+        self.heads.iter().any(|head| head.waiting.is_some())
     }
 
     /// Of a drive's own image and start no number is left to be tested.
-    pub fn ask(&mut self, state: &[u8], target: &[u8], answer_room: usize) -> Result<Vec<u8>, Number> {
+    pub fn ask(&mut self, head: usize, [state, target]: [&[u8]; 2], answer_room: usize) -> Result<Vec<u8>, Number> {
         let inputs = [read_state(&self.problem, state)?, read_target(&self.problem, target)?].concat();
-        if answer_room != answer_len(self.start.len()) {
+        let head = &mut self.heads[head];
+        if answer_room != answer_len(head.start.len()) {
             return Err(15);
         }
-        let answer = answer(&self.problem, &inputs, &self.start);
+        let answer = answer(&self.problem, &inputs, &head.start);
         let written = answer.bytes();
-        self.waiting = Some(answer);
+        head.waiting = Some(answer);
         Ok(written)
     }
 
-    pub fn commit(&mut self, commands_room: usize) -> Result<Vec<u8>, Number> {
+    pub fn commit(&mut self, head: usize, commands_room: usize) -> Result<Vec<u8>, Number> {
         let motors = self.problem.sizes.motors;
         if commands_room != 4 * motors {
             return Err(15);
         }
-        let answer = self.waiting.take().ok_or(18u32)?;
-        self.start = next_start(&self.problem, &answer.commands);
+        let head = &mut self.heads[head];
+        let answer = head.waiting.take().ok_or(18u32)?;
+        head.start = next_start(&self.problem, &answer.commands);
         Ok(bytes(&answer.commands[..motors]))
     }
 }
@@ -56,15 +71,16 @@ pub fn next_start(problem: &Problem, commands: &[i64]) -> Vec<i64> {
     moved.enumerate().map(|(k, command)| command.clamp(problem.lower[k], problem.upper[k])).collect()
 }
 
-/// What was called since the drive was made, wherever it counts.
+/// What was called since the last accepted make or new image, wherever it counts for a head.
 #[derive(Debug, PartialEq, Eq)]
 pub enum Event {
     /// An accepted ask, with its commands.
     Ask(Vec<i64>),
     Commit,
-    RefusedMake,
-    RefusedAsk(Number),
-    RefusedCommit(Number),
+    /// A make, a new image, an ask or a commit of this head, or one of no head.
+    Refused(Kind, Number),
+    /// An ask or a commit of the other head, refused or not.
+    OtherHead(Kind, Number),
     /// An accepted ask of another drive.
     Elsewhere,
 }
@@ -74,7 +90,7 @@ pub fn last_asked(log: &[Event]) -> Option<&[i64]> {
     log.iter().rev().find_map(|event| if let Event::Ask(commands) = event { Some(commands.as_slice()) } else { None })
 }
 
-/// The start by the calls alone: zeros until the first commit, then the last committed answer, moved and held.
+/// A head's start by the calls alone: zeros until its first commit, then its last committed answer, moved and held.
 pub fn counted_start(problem: &Problem, log: &[Event]) -> Vec<i64> {
     match log.iter().rposition(|event| *event == Event::Commit) {
         None => vec![0; problem.sizes.commands()],

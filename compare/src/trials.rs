@@ -20,7 +20,7 @@ use crate::image::{
     top, words,
 };
 use crate::label;
-use crate::made::{ANSWER, IMAGE, MADE_LEN, START, WAITS, answer_part, start_part};
+use crate::made::{ANSWER, HEADS, IMAGE, IMAGE_ROOM, MADE_LEN, START, WAITS, answer_part, head_part, start_part};
 use crate::optimum::Optimum;
 use crate::page::{self, PAGE_LINE};
 use crate::process::Program;
@@ -228,11 +228,11 @@ fn damaged_bytes() -> u64 {
 
 /// Every other value of one byte of a sheet or an image, and the text or image cut there; and of a made drive.
 fn damage(harness: &mut Harness, index: u64, _: &mut Random) {
-    let mut index = index as usize;
-    for (draft, sheet) in victims() {
+    let (mut index, victims) = (index as usize, victims());
+    for (i, (draft, sheet)) in victims.iter().enumerate() {
         let (image, n) = (draft.image(), draft.sizes.commands());
         if index < sheet.len() {
-            for sheet in damaged(&sheet, index) {
+            for sheet in damaged(sheet, index) {
                 harness.compare(&Call::on_buffers(Kind::Intake, &[&sheet], image.len()));
                 harness.compare(&Call::on_buffers(Kind::Page, &[&sheet], PAGE_LINE * draft.body.len()));
             }
@@ -250,7 +250,8 @@ fn damage(harness: &mut Harness, index: u64, _: &mut Random) {
         }
         index -= image.len();
         if index < MADE_LEN {
-            return runs::damage(harness, &draft, index);
+            let (other, _) = &victims[(i + 1) % victims.len()];
+            return runs::damage(harness, draft, other, index);
         }
         index -= MADE_LEN;
     }
@@ -851,13 +852,17 @@ fn rests_agree(harness: &mut Harness) {
     }
 }
 
-/// A made drive has room for the image, the start and the answer of the largest sizes, and no byte more.
+/// A made drive has room for the image and for each head's start and answer of the largest sizes, and no byte more.
 fn parts_agree(harness: &mut Harness) {
     let sizes = Sizes { motors: 4, steps: 4, states: 12, targets: 4, ..cases::sample().sizes };
-    let holds = WAITS == IMAGE + sizes.image_bytes()
-        && START == WAITS + 4
-        && ANSWER == start_part(&sizes).end
-        && MADE_LEN == answer_part(&sizes).end;
+    let head = |head: usize| {
+        START[head] == WAITS[head] + 4
+            && ANSWER[head] == start_part(head, &sizes).end
+            && head_part(head) == (WAITS[head]..answer_part(head, &sizes).end)
+    };
+    let holds = IMAGE_ROOM == (IMAGE..IMAGE + sizes.image_bytes())
+        && [IMAGE_ROOM.end, head_part(0).end, head_part(1).end] == [WAITS[0], WAITS[1], MADE_LEN]
+        && (0..HEADS).all(head);
     harness.check(holds, || "  the parts of a made drive do not follow each other".to_string());
 }
 

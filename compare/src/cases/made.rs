@@ -1,207 +1,16 @@
-//! The cases of request 9: scripts of calls on a made drive, or on two. As in S a sweep makes z into half of z, rounded
-//! down, less h, unless the script says otherwise, and the bounds are 1, 2, 3 whatever the start.
+//! The cases of request 9: scripts of one head's calls. As in S a sweep makes z into half of z, rounded down, less h,
+//! unless the script says otherwise, and the bounds are 1, 2, 3 whatever the start.
 
+use super::script::Script;
 use super::{coupled, motors_and_steps, sample, two_steps, uncoupled, with_steps, with_target};
 use crate::draft::Draft;
-use crate::drive::{Drive, Kind};
-use crate::harness::Harness;
 use crate::image::{COST, GAIN, HEADER_WORDS, HIGH, LOW, MOMENTUM, Number, STATE_LIMIT, Sizes, bytes, words};
-use crate::made::{ANSWER, IMAGE, MADE_LEN, START, WAITS};
-use crate::runs::Run;
-use crate::solve::answer_len;
+use crate::made::{self, IMAGE, MADE_LEN};
 
-/// Calls in their order, and what each of them is to do.
-pub struct Script {
-    name: String,
-    steps: Vec<Step>,
-    /// The drive that the next call is on, and the sizes of each.
-    drive: usize,
-    sizes: [Sizes; 2],
-}
-
-struct Step {
-    drive: usize,
-    /// None where something else writes.
-    kind: Option<Kind>,
-    inputs: Vec<Vec<u8>>,
-    out_len: usize,
-    made_len: usize,
-    number: Number,
-    written: Option<Vec<u8>>,
-    /// The start that the drive then holds, and all of its bytes, where they are worked out.
-    start: Option<Vec<i64>>,
-    whole: Option<Vec<u8>>,
-    /// What is written otherwise, and where.
-    put: (usize, Vec<u8>),
-}
-
-impl Step {
-    fn new(drive: usize, kind: Option<Kind>, inputs: &[&[u8]], out_len: usize, number: Number) -> Step {
-        let inputs = inputs.iter().map(|input| input.to_vec()).collect();
-        let put = (0, Vec::new());
-        let made_len = MADE_LEN;
-        Step { drive, kind, inputs, out_len, made_len, number, written: None, start: None, whole: None, put }
-    }
-
-    fn inputs(&self) -> Vec<&[u8]> {
-        self.inputs.iter().map(Vec::as_slice).collect()
-    }
-}
-
-/// What no call has written.
-fn unmade() -> Vec<u8> {
-    vec![0xEE; MADE_LEN]
-}
-
-impl Script {
-    fn new(name: &str) -> Script {
-        Script { name: name.to_string(), steps: Vec::new(), drive: 0, sizes: [sample().sizes; 2] }
-    }
-
-    /// A drive that was just made.
-    fn of(name: &str, draft: &Draft) -> Script {
-        Script::new(name).make(draft)
-    }
-
-    fn sizes(&self) -> &Sizes {
-        &self.sizes[self.drive]
-    }
-
-    fn push(mut self, kind: Option<Kind>, inputs: &[&[u8]], out_len: usize, number: Number) -> Script {
-        self.steps.push(Step::new(self.drive, kind, inputs, out_len, number));
-        self
-    }
-
-    fn last(&mut self) -> &mut Step {
-        self.steps.last_mut().expect("there is a step")
-    }
-
-    fn make(mut self, draft: &Draft) -> Script {
-        self.sizes[self.drive] = draft.sizes;
-        let zeros = vec![0; draft.sizes.commands()];
-        self.push(Some(Kind::Make), &[&draft.image()], 0, 0).start(&zeros)
-    }
-
-    fn no_make(self, image: &[u8], number: Number) -> Script {
-        self.push(Some(Kind::Make), &[image], 0, number)
-    }
-
-    /// The answer's commands and bounds, and D.
-    fn ask(self, state: &[i64], row: &[i64], distance: u64) -> Script {
-        let mut script = self.no_ask(state, 0);
-        script.last().written = Some([bytes(row), distance.to_be_bytes().to_vec()].concat());
-        script
-    }
-
-    fn no_ask(self, state: &[i64], number: Number) -> Script {
-        let out_len = answer_len(self.sizes().commands());
-        self.push(Some(Kind::Ask), &[&bytes(state), &[]], out_len, number)
-    }
-
-    /// The commands that it issues, and the next start.
-    fn commit(self, commands: &[i64], start: &[i64]) -> Script {
-        self.no_commit(0).issues(commands).start(start)
-    }
-
-    fn issues(mut self, commands: &[i64]) -> Script {
-        self.last().written = Some(bytes(commands));
-        self
-    }
-
-    fn no_commit(self, number: Number) -> Script {
-        let out_len = 4 * self.sizes().motors;
-        self.push(Some(Kind::Commit), &[], out_len, number)
-    }
-
-    /// The target of the last call, which is an ask.
-    fn to(mut self, target: &[i64]) -> Script {
-        self.last().inputs[1] = bytes(target);
-        self
-    }
-
-    /// The start behind the last call.
-    fn start(mut self, start: &[i64]) -> Script {
-        self.last().start = Some(start.to_vec());
-        self
-    }
-
-    /// The bytes behind the last call: words at their places, and zeros.
-    fn whole(mut self, parts: &[(usize, &[i64])]) -> Script {
-        let mut whole = vec![0; 2484];
-        for &(at, part) in parts {
-            whole[at..at + 4 * part.len()].copy_from_slice(&bytes(part));
-        }
-        self.last().whole = Some(whole);
-        self
-    }
-
-    /// The length of the last call's output buffer.
-    fn room(mut self, out_len: usize) -> Script {
-        self.last().out_len = out_len;
-        self
-    }
-
-    /// The length of the drive in the last call.
-    fn length(mut self, made_len: usize) -> Script {
-        self.last().made_len = made_len;
-        self
-    }
-
-    /// Further calls are on this drive.
-    fn on(mut self, drive: usize) -> Script {
-        self.drive = drive;
-        self
-    }
-
-    fn put(self, at: usize, bytes: &[u8]) -> Script {
-        let mut script = self.push(None, &[], 0, 0);
-        script.last().put = (at, bytes.to_vec());
-        script
-    }
-
-    fn put_word(self, at: usize, word: i64) -> Script {
-        self.put(at, &bytes(&[word]))
-    }
-}
-
-/// Runs a script, and holds each call to the script's own figures.
-pub fn run_script(harness: &mut Harness, script: &Script) {
-    let mut drives = [unmade(), unmade()].map(Run::new);
-    for (i, step) in script.steps.iter().enumerate() {
-        let run = &mut drives[step.drive];
-        let Some(kind) = step.kind else {
-            run.put(step.put.0, &step.put.1);
-            continue;
-        };
-        let outcome = run.call(harness, kind, &step.inputs(), [step.out_len, step.made_len]);
-        let holds = outcome.number == step.number
-            && outcome.written == step.written
-            && step.start.as_ref().is_none_or(|start| outcome.made[START..].starts_with(&bytes(start)))
-            && step.whole.as_ref().is_none_or(|whole| outcome.made == *whole);
-        harness.check(holds, || format!("  the script's call {}: {}", i + 1, script.name));
-    }
-}
-
-/// What a drive's calls answer in a script, without a look at the made drives' bytes: numbers and output buffers.
-pub fn answers(drive: &dyn Drive, script: &Script) -> Vec<(Number, Vec<u8>)> {
-    let mut drives = [unmade(), unmade()];
-    let mut answers = Vec::new();
-    for step in &script.steps {
-        let made = &mut drives[step.drive];
-        let Some(kind) = step.kind else {
-            made[step.put.0..step.put.0 + step.put.1.len()].copy_from_slice(&step.put.1);
-            continue;
-        };
-        let mut lent = made.clone();
-        lent.resize(step.made_len, 0);
-        let mut out = vec![0xA5; step.out_len];
-        answers.push((drive.call_made(kind, &mut lent, &step.inputs(), &mut out), out));
-        if step.made_len == MADE_LEN {
-            *made = lent;
-        }
-    }
-    answers
-}
+/// Where the parts of head 0 begin.
+const WAITS: usize = made::WAITS[0];
+const START: usize = made::START[0];
+const ANSWER: usize = made::ANSWER[0];
 
 pub fn scripts() -> Vec<Script> {
     let calls = [of_sample(), in_bytes(), refused(), lengths(), makes(), two_drives(), with_inputs()];
@@ -300,7 +109,8 @@ fn refused() -> Vec<Script> {
     ]
 }
 
-/// 4nu bytes for a commit, 8n + 8 for an ask, and 2484 for the drive, which is tested before all else of these two.
+/// 4nu bytes for a commit, 8n + 8 for an ask, and 2688 for the drive, which is tested before all else of these two. It
+/// was 2484 before request 10.
 fn lengths() -> Vec<Script> {
     let s = Script::of("lengths of S", &sample()).ask(&[10], &[-18, 3], 2);
     let s = [0, 1, 3, 5, 8, 16].into_iter().fold(s, |script, room| script.no_commit(15).room(room));
@@ -310,7 +120,7 @@ fn lengths() -> Vec<Script> {
     let four = [0, 4, 7, 9, 12, 16, 40].into_iter().fold(four, |script, room| script.no_commit(15).room(room));
     let four = [16, 24, 32, 36, 39, 41, 48].into_iter().fold(four, |script, room| script.no_ask(&[10], 15).room(room));
     let drive = Script::of("lengths of a drive", &sample()).ask(&[10], &[-18, 3], 2);
-    let others = [0, 1, 3, 4, 60, WAITS, START, ANSWER, MADE_LEN - 4, MADE_LEN - 1, MADE_LEN + 1, MADE_LEN + 4];
+    let others = [0, 1, 3, 4, 60, WAITS, START, ANSWER, 2484, MADE_LEN - 4, MADE_LEN - 1, MADE_LEN + 1, MADE_LEN + 4];
     let drive = others.into_iter().fold(drive, |script, length| {
         let script = script.no_ask(&[10], 15).length(length).no_ask(&[11], 15).to(&[0]).room(0).length(length);
         let script = script.no_commit(15).length(length).no_commit(15).room(8).length(length);
@@ -329,11 +139,11 @@ fn lengths() -> Vec<Script> {
 }
 
 /// The case "two motors, two steps, sweeps 3", and its next start: (−2, −18) at both steps, held to −4 at the first.
-const FOUR_ASKED: [i64; 8] = [-18, -4, -2, -18, 3, 3, 3, 3];
-const FOUR_MOVED: [i64; 4] = [-2, -4, -2, -18];
+pub const FOUR_ASKED: [i64; 8] = [-18, -4, -2, -18, 3, 3, 3, 3];
+pub const FOUR_MOVED: [i64; 4] = [-2, -4, -2, -18];
 
 /// Images that a make refuses, by the cases of document 01 and of requests 3 and 6.
-fn refused_images() -> Vec<(Vec<u8>, Number)> {
+pub fn refused_images() -> Vec<(Vec<u8>, Number)> {
     let s = sample;
     let image = s().image();
     vec![
@@ -514,6 +324,30 @@ fn unlike(motors: usize, steps: usize, first: usize, [states, targets]: [usize; 
     draft
 }
 
+/// Of these the largest image, and its states.
+pub fn largest() -> Draft {
+    unlike(4, 4, 0, [12, 4])
+}
+
+pub fn state_of(first: i64) -> Vec<i64> {
+    [&[first][..], &[0; 11]].concat()
+}
+
+/// Minus 4 to minus 15, and the last step twice.
+fn largest_moved() -> Vec<i64> {
+    (4..16).chain(12..16).map(|k| -k).collect()
+}
+
+/// A drive of the largest image is asked for the commands 0 to −15, and commits them.
+pub fn ask_largest(script: Script) -> Script {
+    let row = [(0..16).map(|k| -k).collect::<Vec<i64>>(), vec![1; 16]].concat();
+    script.ask(&state_of(10), &row, 14).to(&[0; 4])
+}
+
+pub fn commit_largest(script: Script) -> Script {
+    script.commit(&[0, -1, -2, -3], &largest_moved())
+}
+
 /// The command minus k is 8 k − 10 Φ away: 52 for the sixth of these is the largest, and 106 for the fourteenth, as the
 /// low limit holds the two behind it to 96 and 80.
 fn many_commands() -> Vec<Script> {
@@ -526,18 +360,14 @@ fn many_commands() -> Vec<Script> {
         let script = Script::of(name, &draft).ask(&[10], &six, 7).commit(&issued, start);
         script.ask(&[0], &halves(start), 3)
     };
-    let sixteen = with_bounds((0..16).map(|k| -k).collect());
-    let moved: Vec<i64> = (4..16).chain(12..16).map(|k| -k).collect();
+    let moved = largest_moved();
     let again: Vec<i64> = moved[4..].iter().chain(&moved[12..]).map(|word| word.div_euclid(2)).collect();
-    let state = |first: i64| [&[first][..], &[0; 11]].concat();
-    let largest = Script::of("the largest image", &unlike(4, 4, 0, [12, 4])).ask(&state(10), &sixteen, 14).to(&[0; 4]);
     vec![
         of("one motor, six steps", 1, &[-2, -3, -4, -5, -6, -6]),
         of("two motors, three steps", 2, &[-3, -4, -5, -6, -5, -6]),
         of("three motors, two steps", 3, &[-4, -5, -6, -4, -5, -6]),
-        largest
-            .commit(&[0, -1, -2, -3], &moved)
-            .ask(&state(0), &halves(&moved), 8)
+        commit_largest(ask_largest(Script::of("the largest image", &largest())))
+            .ask(&state_of(0), &halves(&moved), 8)
             .to(&[0; 4])
             .commit(&[-2, -3, -3, -4], &again),
     ]
@@ -639,18 +469,12 @@ fn damaged_images() -> Vec<Script> {
         s("another Φ").put_word(word_of(&sample(), GAIN), 8).ask(&[10], &[-9, 3], 1).commit(&[-9], &[-9]),
     ];
     scripts.extend([0, 31, 32, 52, 55, 57, 60, 2276, 2277, 56 + (1 << 24), -1].map(|word| length(word, 6)));
-    let state = [&[10][..], &[0; 11]].concat();
-    let row = [(0..16).map(|k| -k).collect::<Vec<i64>>(), vec![1; 16]].concat();
-    let moved: Vec<i64> = (4..16).chain(12..16).map(|k| -k).collect();
+    let largest =
+        |word: i64| Script::of(&format!("the largest image, a length word of {word}"), &largest()).put_word(0, word);
     // A word beyond the largest image counts as its length.
-    scripts.extend([2277, 2280, 1 << 30, i32::MIN as i64, -1].map(|word| {
-        let script = Script::of(&format!("the largest image, a length word of {word}"), &unlike(4, 4, 0, [12, 4]));
-        script.put_word(0, word).ask(&state, &row, 14).to(&[0; 4]).commit(&[0, -1, -2, -3], &moved)
-    }));
-    scripts.extend([2272, 2275].map(|word| {
-        let script = Script::of(&format!("the largest image, a length word of {word}"), &unlike(4, 4, 0, [12, 4]));
-        script.put_word(0, word).no_ask(&state, 6).to(&[0; 4]).no_commit(6)
-    }));
+    let beyond = [2277, 2280, 1 << 30, i32::MIN as i64, -1];
+    scripts.extend(beyond.map(|word| commit_largest(ask_largest(largest(word)))));
+    scripts.extend([2272, 2275].map(|word| largest(word).no_ask(&state_of(10), 6).to(&[0; 4]).no_commit(6)));
     scripts
 }
 

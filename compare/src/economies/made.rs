@@ -1,8 +1,10 @@
-//! Request 9's false economies: other starts and commands, an answer that waits too long or too short, asks from
-//! elsewhere, and calls that test too much or too little.
+//! The false economies of requests 9 and 10: other starts and commands, an answer that waits too long or too short,
+//! asks from elsewhere, and calls that test too much or too little; heads that are not apart, and new images.
 
 mod calls;
 mod commits;
+mod heads;
+mod images;
 mod waiting;
 
 use std::ops::Range;
@@ -10,13 +12,18 @@ use std::ops::Range;
 use crate::cases::{Script, answers, run_script};
 use crate::drive::{Drive, Kind, Reference};
 use crate::harness::Harness;
-use crate::image::{Number, Sizes, bytes, words};
-use crate::made::{self, ANSWER, Held, START, start_part};
+use crate::image::{HEADER_WORDS, Number, Sizes, bytes, words};
+use crate::made::{self, HEADS, Held, IMAGE, IMAGE_ROOM, MADE_LEN, START, WAITS};
+use crate::made::{commands_part, put_waits, start_part, waits, word_at};
 use crate::rules::Rules;
 
 /// A call as the papers have it, for a drive that departs from it.
 struct Done<'a> {
     kind: Kind,
+    /// The head, where the call has one; it, and the other.
+    numbers: &'a [u64],
+    head: usize,
+    other: usize,
     inputs: &'a [&'a [u8]],
     /// The drive as it was.
     before: &'a [u8],
@@ -43,20 +50,49 @@ impl Done<'_> {
         self.held().limits(&self.sizes())
     }
 
+    /// Is it an ask or a commit of a head that no drive has?
+    fn is_of_no_head(&self) -> bool {
+        self.numbers.iter().any(|&head| head >= HEADS as u64)
+    }
+
+    /// Did an answer of the call's head wait?
+    fn waited(&self) -> bool {
+        waits(self.before, self.head)
+    }
+
+    /// The same of any head, in a drive that only the calls wrote.
+    fn some_waited(&self) -> bool {
+        WAITS.iter().any(|&at| word_at(self.before, at) == 1)
+    }
+
+    fn put_waits(&mut self, word: u32) {
+        put_waits(self.made, self.head, word);
+    }
+
     /// The commands that waited.
     fn commands(&self) -> Vec<i64> {
-        words(&self.before[ANSWER..ANSWER + 4 * self.sizes().commands()])
+        words(&self.before[commands_part(self.head, &self.sizes())])
     }
 
     /// The start that it had.
     fn start(&self) -> Vec<i64> {
-        words(&self.before[start_part(&self.sizes())])
+        words(&self.before[start_part(self.head, &self.sizes())])
     }
 
     /// The bounds that waited.
     fn bounds(&self) -> Vec<i64> {
-        let n = self.sizes().commands();
-        words(&self.before[ANSWER + 4 * n..ANSWER + 8 * n])
+        let commands = commands_part(self.head, &self.sizes());
+        words(&self.before[commands.end..commands.end + commands.len()])
+    }
+
+    /// Of a make or a new image: is the image the one that was held?
+    fn has_same_image(&self) -> bool {
+        self.made[..IMAGE_ROOM.end] == self.before[..IMAGE_ROOM.end]
+    }
+
+    /// Has it the sizes of that one?
+    fn has_same_sizes(&self) -> bool {
+        self.made[..IMAGE + 4 * HEADER_WORDS] == self.before[..IMAGE + 4 * HEADER_WORDS]
     }
 
     /// Leaves a part of the drive as it was.
@@ -64,16 +100,40 @@ impl Done<'_> {
         self.made[part.clone()].copy_from_slice(&self.before[part]);
     }
 
+    /// Leaves a part of each head as it was.
+    fn keep_of_each(&mut self, part: fn(usize) -> Range<usize>) {
+        (0..HEADS).for_each(|head| self.keep(part(head)));
+    }
+
     fn put_start(&mut self, start: &[i64]) {
-        self.made[START..START + 4 * start.len()].copy_from_slice(&bytes(start));
+        self.put_start_of(self.head, start);
+    }
+
+    fn put_start_of(&mut self, head: usize, start: &[i64]) {
+        let at = START[head];
+        self.made[at..at + 4 * start.len()].copy_from_slice(&bytes(start));
     }
 
     /// The call once more, on the drive as it was but for a change, and all of it written.
     fn again(&mut self, change: impl FnOnce(&mut [u8])) -> Number {
         let mut made = self.before.to_vec();
         change(&mut made);
-        let number = made::call(self.kind, &mut made, self.inputs, self.out);
+        let number = made::call(self.kind, self.numbers, &mut made, self.inputs, self.out);
         self.made.copy_from_slice(&made);
+        number
+    }
+
+    /// The call as one of another head, and all of it written.
+    fn as_head(&mut self, head: u64) -> Number {
+        let mut made = self.before.to_vec();
+        let number = made::call(self.kind, &[head], &mut made, self.inputs, self.out);
+        self.made.copy_from_slice(&made);
+        number
+    }
+
+    /// Leaves the drive as it was, and says this number.
+    fn refuse(&mut self, number: Number) -> Number {
+        self.made.copy_from_slice(self.before);
         number
     }
 }
@@ -92,10 +152,12 @@ impl Drive for Economy {
         Reference { rules: Rules::default() }.call(kind, numbers, inputs, out)
     }
 
-    fn call_made(&self, kind: Kind, made: &mut [u8], inputs: &[&[u8]], out: &mut [u8]) -> Number {
+    fn call_made(&self, kind: Kind, numbers: &[u64], made: &mut [u8], inputs: &[&[u8]], out: &mut [u8]) -> Number {
         let before = made.to_vec();
-        let number = made::call(kind, made, inputs, out);
-        (self.spoil)(&mut Done { kind, inputs, before: &before, number, made, out })
+        let number = made::call(kind, numbers, made, inputs, out);
+        let head = numbers.first().map_or(0, |&head| head as usize);
+        let other = usize::from(head == 0);
+        (self.spoil)(&mut Done { kind, numbers, head, other, inputs, before: &before, number, made, out })
     }
 }
 
@@ -125,9 +187,35 @@ fn by_bytes(economy: Economy) -> Economy {
     Economy { by_answers: false, ..economy }
 }
 
-/// A drive that does something else where a call has such a number.
+/// A drive that does something else where a call, of a head if it has one, has such a number.
 fn at(name: &str, kind: Kind, numbers: &'static [Number], spoil: fn(&mut Done) -> Number) -> Economy {
-    lazy(name, move |done| if done.kind == kind && numbers.contains(&done.number) { spoil(done) } else { done.number })
+    lazy(name, move |done| {
+        let is_such = done.kind == kind && numbers.contains(&done.number) && !done.is_of_no_head();
+        if is_such { spoil(done) } else { done.number }
+    })
+}
+
+/// A drive that writes to itself though it refuses the call.
+fn refused(name: &str, kind: Kind, numbers: &'static [Number], spoil: fn(&mut Done)) -> Economy {
+    lazy(name, move |done| {
+        if done.kind == kind && numbers.contains(&done.number) && done.made.len() == MADE_LEN {
+            spoil(done);
+        }
+        done.number
+    })
+}
+
+/// Lets no answer wait, of either head.
+fn clear_answers(done: &mut Done) {
+    (0..HEADS).for_each(|head| put_waits(done.made, head, 0));
+}
+
+/// The numbers of an image that is refused.
+const IMAGE_NUMBERS: &[Number] = &[6, 3, 5, 7, 17, 8, 9, 10, 11, 12];
+
+/// Takes a drive of one head, as it was before request 10.
+fn former_length(done: &mut Done) -> Number {
+    if done.before.len() == 2484 { 0 } else { 15 }
 }
 
 /// A drive that does something more behind an accepted call.
@@ -140,6 +228,16 @@ fn behind(name: &str, kind: Kind, spoil: impl Fn(&mut Done) + 'static) -> Econom
     })
 }
 
+/// The same at head 1 alone.
+fn at_head_1(economy: Economy) -> Economy {
+    let Economy { name, spoil, by_answers } = economy;
+    let at_head_1: Spoil = Box::new(move |done| if done.numbers == [1] { spoil(done) } else { done.number });
+    Economy { name: format!("{name}, at head 1 alone"), spoil: at_head_1, by_answers }
+}
+
 pub fn economies() -> Vec<Economy> {
-    commits::economies().into_iter().chain(waiting::economies()).chain(calls::economies()).collect()
+    let of_request_9 = [commits::economies(), waiting::economies(), calls::economies()];
+    let of_request_10 = [heads::economies(), images::economies()];
+    let at_head_1 = commits::economies().into_iter().map(at_head_1);
+    of_request_9.into_iter().chain(of_request_10).flatten().chain(at_head_1).collect()
 }

@@ -6,7 +6,8 @@ use super::{Done, Economy, at, behind, by_bytes, lazy};
 use crate::drive::Kind;
 use crate::generate::TABLE_NUMBERS;
 use crate::image::{Number, Sizes, bytes, open, words};
-use crate::made::{self, ANSWER, Held, IMAGE, MADE_LEN, START, WAITS, hold, put_waits, start_part, waits, word_at};
+use crate::made::{self, ANSWER, HEADS, Held, IMAGE, IMAGE_ROOM, MADE_LEN, START, WAITS, hold, put_waits};
+use crate::made::{answer_room, commands_part, start_part, start_room, waits_part, word_at};
 use crate::rules::Rules;
 
 pub fn economies() -> Vec<Economy> {
@@ -18,8 +19,9 @@ pub fn economies() -> Vec<Economy> {
 
 /// The ask from another start, which the drive does not keep.
 fn ask_from(done: &mut Done, start: Vec<i64>) -> Number {
-    let number = done.again(|made| made[START..START + 4 * start.len()].copy_from_slice(&bytes(&start)));
-    done.keep(START..ANSWER);
+    let head = done.head;
+    let number = done.again(|made| made[START[head]..][..4 * start.len()].copy_from_slice(&bytes(&start)));
+    done.keep(start_room(head));
     number
 }
 
@@ -32,7 +34,7 @@ fn from_other_starts() -> Vec<Economy> {
     vec![
         at("solves from zeros", Kind::Ask, &[0], from_zeros),
         at("solves from the waiting answer", Kind::Ask, &[0], |done| {
-            let start = if waits(done.before) { done.commands() } else { done.start() };
+            let start = if done.waited() { done.commands() } else { done.start() };
             ask_from(done, start)
         }),
         at("solves from the last answer, used up or not", Kind::Ask, &[0], |done| {
@@ -52,9 +54,9 @@ fn with_other_answers() -> Vec<Economy> {
     vec![
         behind("does not write the answer", Kind::Ask, |done| done.out.fill(0)),
         behind("writes the answer that waited", Kind::Ask, |done| {
-            if waits(done.before) {
+            if done.waited() {
                 let length = done.out.len();
-                done.out.copy_from_slice(&done.before[ANSWER..ANSWER + length]);
+                done.out.copy_from_slice(&done.before[ANSWER[done.head]..][..length]);
             }
         }),
         behind("writes the first step alone", Kind::Ask, |done| {
@@ -62,8 +64,8 @@ fn with_other_answers() -> Vec<Economy> {
             done.out[issued..].fill(0);
         }),
         behind("lets the start wait in the answer's place", Kind::Ask, |done| {
-            let part = start_part(&done.sizes());
-            done.made.copy_within(part, ANSWER);
+            let head = done.head;
+            done.made.copy_within(start_part(head, &done.sizes()), ANSWER[head]);
         }),
         at("touches the answer's buffer with 15", Kind::Ask, &[15], |done| {
             done.out.fill(0);
@@ -74,7 +76,7 @@ fn with_other_answers() -> Vec<Economy> {
 
 fn with_other_inputs() -> Vec<Economy> {
     fn ask(done: &mut Done, state: &[u8], target: &[u8]) -> Number {
-        made::call(Kind::Ask, done.made, &[state, target], done.out)
+        made::call(Kind::Ask, done.numbers, done.made, &[state, target], done.out)
     }
     vec![
         at("does not test an ask's state", Kind::Ask, &[13], |done| {
@@ -90,25 +92,25 @@ fn with_other_inputs() -> Vec<Economy> {
 
 fn that_keep() -> Vec<Economy> {
     vec![
-        behind("keeps an old waiting answer in a make", Kind::Make, |done| done.keep(WAITS..START)),
+        behind("keeps an old waiting answer in a make", Kind::Make, |done| done.keep_of_each(waits_part)),
         behind("keeps an old answer in a make and lets it wait", Kind::Make, |done| {
-            done.keep(ANSWER..MADE_LEN);
-            done.keep(WAITS..START);
+            done.keep_of_each(answer_room);
+            done.keep_of_each(waits_part);
         }),
-        behind("keeps the old start in a make", Kind::Make, |done| done.keep(START..ANSWER)),
+        behind("keeps the old start in a make", Kind::Make, |done| done.keep_of_each(start_room)),
         behind("keeps the old start where the image is the same", Kind::Make, |done| {
-            if done.made[..WAITS] == done.before[..WAITS] {
-                done.keep(START..ANSWER);
+            if done.has_same_image() {
+                done.keep_of_each(start_room);
             }
         }),
         behind("keeps the old image while an answer waits", Kind::Make, |done| {
-            if word_at(done.before, WAITS) == 1 {
+            if done.some_waited() {
                 done.keep(0..MADE_LEN);
             }
         }),
         behind("keeps the old image where the sizes are the same", Kind::Make, |done| {
-            if done.made[..IMAGE + 32] == done.before[..IMAGE + 32] {
-                done.keep(0..WAITS);
+            if done.has_same_sizes() {
+                done.keep(0..IMAGE_ROOM.end);
             }
         }),
     ]
@@ -123,17 +125,15 @@ fn with_other_makes() -> Vec<Economy> {
     vec![
         behind("starts a new drive at its lows", Kind::Make, |done| {
             let lows = lows(done.made);
-            done.put_start(&lows);
+            (0..HEADS).for_each(|head| done.put_start_of(head, &lows));
         }),
-        behind("lets zeros wait in a new drive", Kind::Make, |done| put_waits(done.made, 1)),
+        behind("lets zeros wait in a new drive", Kind::Make, |done| {
+            (0..HEADS).for_each(|head| put_waits(done.made, head, 1));
+        }),
         at("does not test the tables in a make", Kind::Make, &TABLE_NUMBERS, |_| 0),
         at("says 12 for every image that a make refuses", Kind::Make, &[6, 3, 5, 7, 17, 8, 9, 10, 11], |_| 12),
         at("turns a make down while an answer waits", Kind::Make, &[0], |done| {
-            if word_at(done.before, WAITS) != 1 {
-                return 0;
-            }
-            done.made.copy_from_slice(done.before);
-            18
+            if done.some_waited() { done.refuse(18) } else { 0 }
         }),
     ]
 }
@@ -153,7 +153,7 @@ fn with_other_images() -> Vec<Economy> {
     }
     fn within_room(done: &mut Done) -> Number {
         let length = word_at(done.before, 0) as usize;
-        if length <= WAITS - IMAGE { done.number } else { with_length(done, 0) }
+        if length <= IMAGE_ROOM.len() { done.number } else { with_length(done, 0) }
     }
     vec![
         at("tests the whole image in a commit", Kind::Commit, &[0], |done| {
@@ -173,23 +173,24 @@ fn with_other_images() -> Vec<Economy> {
 
 /// What a drive keeps where its caller does not see it.
 fn elsewhere() -> Vec<Economy> {
-    let kept = RefCell::new(Vec::new());
+    let kept = RefCell::new([const { Vec::new() }; HEADS]);
     let answer = lazy("keeps the waiting answer outside of the drive", move |done| {
         let mut kept = kept.borrow_mut();
         if done.is(Kind::Ask, 0) {
-            *kept = done.out.to_vec();
+            kept[done.head] = done.out.to_vec();
         }
         if done.is(Kind::Commit, 0) {
-            done.out.iter_mut().zip(kept.iter()).for_each(|(to, byte)| *to = *byte);
+            done.out.iter_mut().zip(&kept[done.head]).for_each(|(to, byte)| *to = *byte);
         }
         done.number
     });
-    let waiting = RefCell::new(false);
+    let waiting = RefCell::new([false; HEADS]);
     let word = lazy("keeps outside of the drive whether an answer waits", move |done| {
         let mut waiting = waiting.borrow_mut();
         match (done.kind, done.number) {
-            (Kind::Commit, 0) if !*waiting => return 18,
-            (_, 0) => *waiting = done.kind == Kind::Ask,
+            (Kind::Commit, 0) if !waiting[done.head] => return 18,
+            (Kind::Ask | Kind::Commit, 0) => waiting[done.head] = done.kind == Kind::Ask,
+            (_, 0) => *waiting = [false; HEADS],
             _ => {}
         }
         done.number
@@ -204,10 +205,12 @@ fn unseen(name: &str, kind: Kind, spoil: fn(&mut Done)) -> Economy {
 
 fn in_commits() -> Vec<Economy> {
     vec![
-        unseen("clears the answer's bytes in a commit", Kind::Commit, |done| done.made[ANSWER..].fill(0)),
+        unseen("clears the answer's bytes in a commit", Kind::Commit, |done| {
+            done.made[answer_room(done.head)].fill(0);
+        }),
         unseen("clears the start's room behind its words", Kind::Commit, |done| {
-            let part = start_part(&done.sizes());
-            done.made[part.end..ANSWER].fill(0);
+            let (head, sizes) = (done.head, done.sizes());
+            done.made[start_part(head, &sizes).end..ANSWER[head]].fill(0);
         }),
         by_bytes(at("writes a start though no answer waits", Kind::Commit, &[18], |done| {
             let commands = done.commands();
@@ -221,18 +224,19 @@ fn in_asks_and_makes() -> Vec<Economy> {
     vec![
         unseen("clears the answer's room behind its words", Kind::Ask, |done| {
             let length = done.out.len();
-            done.made[ANSWER + length..].fill(0);
+            done.made[answer_room(done.head)][length..].fill(0);
         }),
         unseen("keeps the commands of an answer alone", Kind::Ask, |done| {
-            let n = done.sizes().commands();
-            done.keep(ANSWER + 4 * n..MADE_LEN);
+            let commands = commands_part(done.head, &done.sizes());
+            done.keep(commands.end..answer_room(done.head).end);
         }),
         unseen("keeps no D", Kind::Ask, |done| {
-            let n = done.sizes().commands();
-            done.keep(ANSWER + 8 * n..MADE_LEN);
+            let commands = commands_part(done.head, &done.sizes());
+            done.keep(commands.end + commands.len()..answer_room(done.head).end);
         }),
         unseen("counts the asks in the word that tells of them", Kind::Ask, |done| {
-            put_waits(done.made, word_at(done.before, WAITS).wrapping_add(1));
+            let word = word_at(done.before, WAITS[done.head]);
+            done.put_waits(word.wrapping_add(1));
         }),
         unseen("mends the length word in an ask", Kind::Ask, |done| {
             let length = done.held().image.len() as u32;
@@ -240,8 +244,8 @@ fn in_asks_and_makes() -> Vec<Economy> {
         }),
         unseen("leaves the bytes behind a shorter image", Kind::Make, |done| {
             let length = word_at(done.made, 0) as usize;
-            done.keep(IMAGE + length..WAITS);
+            done.keep(IMAGE + length..IMAGE_ROOM.end);
         }),
-        unseen("leaves the old answer's bytes in a make", Kind::Make, |done| done.keep(ANSWER..MADE_LEN)),
+        unseen("leaves the old answers' bytes in a make", Kind::Make, |done| done.keep_of_each(answer_room)),
     ]
 }

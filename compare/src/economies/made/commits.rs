@@ -3,7 +3,7 @@
 use super::{Done, Economy, at, behind, lazy};
 use crate::drive::Kind;
 use crate::image::{Number, Sizes, bytes, words};
-use crate::made::{Held, hold, start_part, waits};
+use crate::made::{Held, hold, start_part};
 use crate::plain::moved;
 use crate::solve::held;
 
@@ -187,7 +187,7 @@ fn with_other_commands() -> Vec<Economy> {
         }),
         issues("issues the bounds", |done| done.bounds()),
         issues("issues the start", |done| done.start()),
-        issues("issues the next start", |done| words(&done.made[start_part(&done.sizes())])),
+        issues("issues the next start", |done| words(&done.made[start_part(done.head, &done.sizes())])),
         issues("issues zeros", |done| vec![0; done.sizes().motors]),
         issues("holds what it issues", |done| all_held(done.commands(), done.limits())),
         issues("issues the commands of the last motor first", |done| {
@@ -215,10 +215,9 @@ fn issue(done: &mut Done, count: fn(&Sizes, usize) -> usize) -> Number {
     };
     let count = count(&sizes, done.out.len());
     if done.out.len() != 4 * count {
-        done.made.copy_from_slice(done.before);
-        return 15;
+        return done.refuse(15);
     }
-    if !waits(done.before) {
+    if !done.waited() {
         return 18;
     }
     let commands = bytes(&done.commands()[..count]);
