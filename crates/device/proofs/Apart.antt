@@ -15,7 +15,7 @@ use Rattle.device.specs.Solver.{Solver}
 use Rattle.device.specs.Device.{Head, Device, count, absent, headAt, waits, answerOf, idle}
 use Rattle.device.specs.Call.{Call, make, newImage, ask, commit, callNumber, callAnswer, callNext, made, restarted, asked, committed, step}
 use Rattle.device.specs.Run.{Event, eventOf, after, log}
-use Rattle.device.specs.Apart.{concernsBy, only, callsOf, Same, Quiet, Alone, Apart}
+use Rattle.device.specs.Apart.{concernsBy, concerns, only, callsOf, isNewImage, noNewImage, Same, Quiet, Alone, Apart}
 use Rattle.device.proofs.Runs.{ask-inside, commit-inside, next-accepted, next-refused, number-of, other-head}
 
 -- ---- lists of heads
@@ -255,3 +255,48 @@ module _ (s : Solver) (k : ℕ) (d e : Device) (same : Same k d e) where
           head = a .left .head ∙ ap (λ (x : Device). headAt x k) l ∙ sym (b .left .head);
         };
       }
+
+-- ---- between accepted new images: a run, and the run of these calls alone from the same drive, whoever's answer waits
+module _ (s : Solver) (k : ℕ) where
+  -- whether a call concerns head k hangs on the drive for a new image alone
+  still : (c : Call) (d e : Device) → isNewImage c ≡ false → concerns k (eventOf c (step s d c)) ≡ true → concerns k (eventOf c (step s e c)) ≡ true
+  unfolding step callNumber
+  still (make i) d e n q = q
+  still (newImage i) d e n q = absurd (true≢false n)
+  still (ask j state target room) d e n q = q
+  still (commit j room) d e n q = q
+
+  calls-logged : (d : Device) (cs : List Call) → callsOf (log s d cs) ≡ cs
+  calls-logged d [] = refl
+  calls-logged d (c ∷ cs) = ap (λ (l : List Call). c ∷ l) (calls-logged d cs)
+
+  module _ (d : Device) where
+    abbrev own : List Call → List Call
+    own cs = callsOf (only k (log s d cs))
+
+    -- the calls that concern head k all do so where they are made alone
+    all-own : (cs : List Call) → noNewImage (own cs) ≡ true → only k (log s d (own cs)) ≡ log s d (own cs)
+    all-own [] n = refl
+    all-own (c ∷ cs) n = by (concerns k event) refl n (all-own cs)
+      where
+        event : Event
+        event = eventOf c (step s (after s d cs) c)
+
+        kept-calls : Bool → List Call
+        kept-calls t = callsOf (cond t (event ∷ only k (log s d cs)) (only k (log s d cs)))
+
+        Earlier : Type 0
+        Earlier = noNewImage (own cs) ≡ true → only k (log s d (own cs)) ≡ log s d (own cs)
+
+        by : (t : Bool) → concerns k event ≡ t → noNewImage (kept-calls t) ≡ true → Earlier → only k (log s d (kept-calls t)) ≡ log s d (kept-calls t)
+        by true q n earlier =
+            let b = both (not (isNewImage c)) (noNewImage (own cs)) n in
+            let e = eventOf c (step s (after s d (own cs)) c) in
+            rw (still c (after s d cs) (after s d (own cs)) (not-true (isNewImage c) (b .0)) q) (ap (λ (l : List Event). e ∷ l) (earlier (b .1)))
+        by false q n earlier = earlier n
+
+    pub between : (cs : List Call) → noNewImage (own cs) ≡ true → Alone s k d d cs
+    between cs n =
+        let o = all-own cs n in
+        let a = apart s k d d (record { image = refl; count-is = refl; head = refl }) cs (own cs) (sym (ap callsOf o ∙ calls-logged d (own cs))) in
+        record { outcomes = a .outcomes ∙ o; left = a .left }

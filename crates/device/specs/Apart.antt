@@ -1,6 +1,6 @@
 -- Request 10: "asks, commits and refused calls of one head, taken at will, leave the other's answers and starts the same". Assumes nothing.
 use Prim.Native.Nat.{ℕ}
-use mathlib.Core.Bool.{Bool, cond}
+use mathlib.Core.Bool.{Bool, true, false, cond, not, _&&_}
 use mathlib.Core.List.{List, [], _∷_}
 use mathlib.Core.Option.{none}
 use mathlib.Core.Path.{_≡_}
@@ -30,6 +30,17 @@ only k (e ∷ es) = cond (concerns k e) (e ∷ only k es) (only k es)
 abbrev pub callsOf : List Event → List Call
 callsOf [] = []
 callsOf (e ∷ es) = e .call ∷ callsOf es
+
+-- "between accepted new images": none among the calls
+abbrev pub isNewImage : Call → Bool
+isNewImage (make image) = false
+isNewImage (newImage image) = true
+isNewImage (ask j state target room) = false
+isNewImage (commit j room) = false
+
+abbrev pub noNewImage : List Call → Bool
+noNewImage [] = true
+noNewImage (c ∷ cs) = not (isNewImage c) && noNewImage cs
 
 -- two drives that are the same to head k
 pub record Same (k : ℕ) (d e : Device) : Type 0 where

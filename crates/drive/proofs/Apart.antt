@@ -12,7 +12,7 @@ use Rattle.device.specs.Device.{Head, headCount, absent, headAt}
 use Rattle.device.specs.Call.{Call}
 use Rattle.device.specs.Run as value
 use Rattle.device.specs.Run.{Event}
-use Rattle.device.specs.Apart.{only, callsOf, Same, Quiet}
+use Rattle.device.specs.Apart.{only, callsOf, noNewImage, Same, Quiet, Alone}
 use Rattle.device.proofs.Apart as value-apart
 use Rattle.drive.specs.Layout.{heldWaiting}
 use Rattle.drive.specs.Calls.{makeDrive}
@@ -44,21 +44,24 @@ module _ (k : ℕ) (h : k < headCount) where
           ap (λ (x : Head). x .waiting) (head-held d j b) ∙ rw (eq-eqb (heldWaiting d j) 0 (q j b n))
       by false l = ap (λ (x : Head). x .waiting) (List·getD-eq-default (deviceOf d .heads) absent (ltb-false j headCount l))
 
-  module _ (d e : List ℕ) (v : Valid d) (w : Valid e) (s : SameHead k d e) where
-    -- the calls that concern head k have in a run the numbers and bytes that they have in the run of these calls alone, from any drive in
-    -- which no other answer waits
-    pub run-alone : QuietBeside k e → (cs : List Call) → RunAlone k d e cs
-    run-alone q cs =
-        let a = value-apart.alone solver k (deviceOf d) (deviceOf e) (to-value d e s) (quiet-value e q) cs in
+  module _ (d e : List ℕ) (v : Valid d) (w : Valid e) where
+    -- what is said of the drives that they hold
+    alone-bytes : (cs : List Call) → Alone solver k (deviceOf d) (deviceOf e) cs → RunAlone k d e cs
+    alone-bytes cs a =
         let own = ap (λ (l : List Event). callsOf (only k l)) (held-log d v cs) in
         record {
           outcomes = sym (ap (only k) (held-log d v cs)) ∙ a .outcomes ∙ ap (value.log solver (deviceOf e)) own ∙ held-log e w (callsOf (only k (logOf d cs)));
           left = to-bytes (afterRun d cs) (afterRun e (callsOf (only k (logOf d cs)))) (subst₂ (Same k) (held-run d v cs) (ap (value.after solver (deviceOf e)) own ∙ held-run e w (callsOf (only k (logOf d cs)))) (a .left));
         }
 
+    -- the calls that concern head k have in a run the numbers and bytes that they have in the run of these calls alone, from any drive in
+    -- which no other answer waits
+    pub run-alone : SameHead k d e → QuietBeside k e → (cs : List Call) → RunAlone k d e cs
+    run-alone s q cs = alone-bytes cs (value-apart.alone solver k (deviceOf d) (deviceOf e) (to-value d e s) (quiet-value e q) cs)
+
     -- and so in any two runs that agree on them
-    pub runs-apart : (cs others : List Call) → callsOf (only k (logOf d cs)) ≡ callsOf (only k (logOf e others)) → RunsApart k d e cs others
-    runs-apart cs others q =
+    pub runs-apart : SameHead k d e → (cs others : List Call) → callsOf (only k (logOf d cs)) ≡ callsOf (only k (logOf e others)) → RunsApart k d e cs others
+    runs-apart s cs others q =
         let a = value-apart.apart solver k (deviceOf d) (deviceOf e) (to-value d e s) cs others (rw (held-log d v cs, held-log e w others) q) in
         record {
           outcomes = sym (ap (only k) (held-log d v cs)) ∙ a .outcomes ∙ ap (only k) (held-log e w others);
@@ -67,14 +70,22 @@ module _ (k : ℕ) (h : k < headCount) where
 
   -- ---- from a new drive, and from any moment of a run
   module _ (image : List ℕ) (ok : imageNumber image ≡ 0) where
-    pub alone : (cs : List Call) → RunAlone k (makeDrive image) (makeDrive image) cs
-    alone cs =
-        let v = new-valid image ok in
-        run-alone (makeDrive image) (makeDrive image) v v (record { image = refl; head = refl }) (λ j b _. made-waiting image ok j b) cs
+    new : Valid (makeDrive image)
+    new = new-valid image ok
 
-    pub apart : (earlier cs others : List Call) →
-        let d = driveNow image earlier in
-        callsOf (only k (logOf d cs)) ≡ callsOf (only k (logOf d others)) → RunsApart k d d cs others
-    apart earlier cs others q =
-        let v = valid-run (makeDrive image) (new-valid image ok) earlier in
-        runs-apart (driveNow image earlier) (driveNow image earlier) v v (record { image = refl; head = refl }) cs others q
+    pub alone : (cs : List Call) → RunAlone k (makeDrive image) (makeDrive image) cs
+    alone cs = run-alone (makeDrive image) (makeDrive image) new new (record { image = refl; head = refl }) (λ j b _. made-waiting image ok j b) cs
+
+    module _ (earlier : List Call) where
+      abbrev d : List ℕ
+      d = driveNow image earlier
+
+      v : Valid d
+      v = valid-run (makeDrive image) new earlier
+
+      -- "between accepted new images", whoever's answer waits
+      pub between : (cs : List Call) → noNewImage (callsOf (only k (logOf d cs))) ≡ true → RunAlone k d d cs
+      between cs n = alone-bytes d d v v cs (value-apart.between solver k (deviceOf d) cs (rw (held-log d v cs) n))
+
+      pub apart : (cs others : List Call) → callsOf (only k (logOf d cs)) ≡ callsOf (only k (logOf d others)) → RunsApart k d d cs others
+      apart cs others q = runs-apart d d v v (record { image = refl; head = refl }) cs others q

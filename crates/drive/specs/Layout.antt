@@ -1,5 +1,5 @@
 -- Requests 9 and 10: where a drive's parts stand in its bytes, and what they hold, of every byte string. Each place is derived from the one
--- before. Bytes of a room that its part does not fill keep what they are. Assumes nothing.
+-- before. Bytes of a room that its part does not fill are zeros from make or a new image on; an ask and a commit leave them. Assumes nothing.
 use Prim.Native.Nat.{ℕ, _+_, _*_, min}
 use mathlib.Core.List.{List}
 use lib.ListN.{take, drop}

@@ -90,8 +90,8 @@ module _ (image : List ℕ) (cs : List Call) where
     pub held-start : (k : ℕ) → k < headCount → heldStart driveNow k ≡ startNow solver image k logNow
     -- a make is tested by its image alone
     pub make-number : (other : List ℕ) → makeNumber other (length driveNow) ≡ imageNumber other
-    -- "19 a new image, itself acceptable, while either head has a waiting answer": where of some head no commit has come since its last
-    -- accepted ask
+    -- "19 a new image, itself acceptable, while either head has a waiting answer": where some head has an accepted ask behind which neither
+    -- a commit of this head nor a make has been accepted
     pub new-number : (other : List ℕ) → newNumber driveNow other ≡ orElse (imageNumber other) (firstFault (check 19 (allTo (λ (k : ℕ). not (waits (waitingNow k logNow))) headCount) ∷ []))
     -- "an ask solves from the held start, writes the solve's answer": refused with 3 by its head, with 13, 16 or 15, or not at all
     pub ask-number : (k : ℕ) (state target : List ℕ) (room : ℕ) →
