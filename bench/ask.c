@@ -1,15 +1,17 @@
 /* An ask beside the solve that it makes, in one run and on the same bytes: the answers are compared, the times printed. The
- * difference is what a drive costs. A commit is timed too. usage: ask [count]  (count: each call is made once, not timed) */
+ * difference is what a drive costs. The other calls on a drive are timed too. usage: ask [count]  (count: each call is made
+ * once, not timed) */
 #include <stdio.h>
 #include <string.h>
 
 #include "problems.h"
 
-enum { SOLVE, ASK, COMMIT, CALLS };
-static const char *const names[CALLS] = {"solve", "ask", "commit"};
+enum { SOLVE, ASK, COMMIT, MAKE, NEW_IMAGE, CALLS };
+static const char *const names[CALLS] = {"solve", "ask", "commit", "make", "new image"};
 
 /* Asks of one drive repeat, since they leave its start as it is. A commit uses up the waiting answer, so each commit of a
- * round has a drive of its own; they are few enough to stay in the fastest cache. */
+ * round has a drive of its own; they are few enough to stay in the fastest cache. Makes and new images have one of these:
+ * after a make no answer waits. */
 enum { DRIVES = 8, HEAD = 0 };
 static uint8_t ready[GANTRY_DRIVE_BYTES]; /* an answer waits in it */
 static uint8_t drives[DRIVES][GANTRY_DRIVE_BYTES];
@@ -22,9 +24,25 @@ static uint32_t call(const struct problem *p, int kind, uint8_t *drive, uint8_t 
     case ASK:
         return gantry_ask(drive, GANTRY_DRIVE_BYTES, HEAD, p->state, GANTRY_STATE_BYTES(p->nx), p->target,
                           GANTRY_TARGET_BYTES(p->nr), out, GANTRY_ANSWER_BYTES(p->n));
-    default:
+    case COMMIT:
         return gantry_commit(drive, GANTRY_DRIVE_BYTES, HEAD, out, GANTRY_COMMANDS_BYTES(word(p, 0)));
+    case MAKE:
+        return gantry_make(p->image, p->image_len, drive, GANTRY_DRIVE_BYTES);
+    default:
+        return gantry_new_image(drive, GANTRY_DRIVE_BYTES, p->image, p->image_len);
     }
+}
+
+/* The drive of a call: the one with the waiting answer is for asks. */
+static uint8_t *drive_of(int kind, int c)
+{
+    return kind == ASK ? ready : drives[kind == COMMIT ? c : 0];
+}
+
+/* How many bytes of the solve's answer a call writes out. */
+static size_t written(const struct problem *p, int kind)
+{
+    return kind == ASK ? GANTRY_ANSWER_BYTES(p->n) : kind == COMMIT ? GANTRY_COMMANDS_BYTES(word(p, 0)) : 0;
 }
 
 /* noipa: valgrind finds the call by its name. */
@@ -44,18 +62,17 @@ static int wrong(const struct problem *p, const char *what, uint32_t number)
 /* Makes the drive and leaves an answer waiting in it. Two asks give the solve's bytes, and a commit the first of them. */
 static int agree(const struct problem *p)
 {
-    static const int kinds[] = {SOLVE, ASK, ASK, COMMIT};
+    static const int kinds[] = {SOLVE, ASK, ASK, COMMIT, MAKE, NEW_IMAGE};
     uint8_t solved[ANSWER] = {0}, out[ANSWER] = {0};
-    uint32_t number = gantry_make(p->image, p->image_len, ready, sizeof ready);
+    uint32_t number = call(p, MAKE, ready, out);
     if (number != GANTRY_ACCEPTED)
-        return wrong(p, "make", number);
+        return wrong(p, names[MAKE], number);
     for (size_t k = 0; k < sizeof kinds / sizeof *kinds; k++) {
         int kind = kinds[k];
         if (kind == COMMIT)
             memcpy(drives[0], ready, sizeof ready);
-        number = call(p, kind, kind == COMMIT ? drives[0] : ready, kind == SOLVE ? solved : out);
-        size_t length = kind == COMMIT ? GANTRY_COMMANDS_BYTES(word(p, 0)) : GANTRY_ANSWER_BYTES(p->n);
-        if (number != GANTRY_ACCEPTED || (kind != SOLVE && memcmp(out, solved, length) != 0))
+        number = call(p, kind, drive_of(kind, 0), kind == SOLVE ? solved : out);
+        if (number != GANTRY_ACCEPTED || memcmp(out, solved, written(p, kind)) != 0)
             return wrong(p, names[kind], number);
     }
     return 1;
@@ -70,7 +87,7 @@ static double take(const struct problem *p, int kind)
             memcpy(drives[c], ready, sizeof ready);
     double begin = now();
     for (int c = 0; c < calls; c++)
-        call_once(p, kind, kind == COMMIT ? drives[c] : ready);
+        call_once(p, kind, drive_of(kind, c));
     return 1e6 * (now() - begin) / calls;
 }
 
