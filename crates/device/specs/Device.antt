@@ -9,21 +9,26 @@ use lib.ListN.{length, getD}
 pub record Head : Type 0 where
   pub start : List ℕ
   pub waiting : Option (List ℕ)
+  -- what it "has left of its own share" of the period's sweeps
+  pub own : ℕ
 
--- "two heads share one image"
+-- the heads "share one image"
 pub record Device : Type 0 where
   pub image : List ℕ
   pub heads : List Head
+  -- what is left of the "common part"
+  pub common : ℕ
 
-abbrev pub headCount : ℕ
-headCount = 2
+-- "up to four heads"
+abbrev pub mostHeads : ℕ
+mostHeads = 4
 
 -- how many a drive has, and head k of it; what stands for a head that is not there
-abbrev pub count : Device → ℕ
-count d = length (d .heads)
+abbrev pub headCount : Device → ℕ
+headCount d = length (d .heads)
 
 abbrev pub absent : Head
-absent = record { start = []; waiting = none }
+absent = record { start = []; waiting = none; own = 0 }
 
 abbrev pub headAt : Device → ℕ → Head
 headAt d k = getD (d .heads) k absent
@@ -37,7 +42,7 @@ abbrev pub answerOf : Option (List ℕ) → List ℕ
 answerOf none = []
 answerOf (some a) = a
 
--- not so "while either head has a waiting answer"
+-- not so while a head "has a waiting answer"
 abbrev pub idle : List Head → Bool
 idle [] = true
 idle (h ∷ hs) = not (waits (h .waiting)) && idle hs

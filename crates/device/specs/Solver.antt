@@ -17,3 +17,5 @@ pub record Solver : Type 0 where
   -- an "answer's first nu commands", and their "4nu bytes"
   pub firstCommands : List ℕ → List ℕ → List ℕ
   pub firstLength : List ℕ → ℕ
+  -- "an ask costs the image's sweeps"
+  pub sweeps : List ℕ → ℕ
