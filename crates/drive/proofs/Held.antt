@@ -1,256 +1,247 @@
--- What the bytes of a drive hold after each call that is accepted. Assumes nothing.
-use mathlib.Core.Bool.{Bool, true, false}
+-- What the bytes of a drive hold after an ask, a commit and a done: one head is another, and the common part may be. Assumes nothing.
 use mathlib.Core.Path.{_≡_, refl, sym, ap, _∙_}
-use mathlib.Core.List.{List}
-use mathlib.Core.Logic.{_⊎_, inl, inr, ⊎-elim}
+use mathlib.Core.List.{List, [], _∷_}
+use mathlib.Core.Logic.{inl, inr}
 use mathlib.Core.Option.{none, some}
-use Prim.Native.Nat.{ℕ, _+_, _*_, _^_, _<_, _≤_, min}
-use native.Mathlib.Nat.{eq-or-lt-of-le}
+use Prim.Native.Nat.{ℕ, _+_, _-_, _*_, _^_, _<_, _≤_}
 use native.Mathlib.Omega.{arith}
-use lib.Dec.{ltb, lit<}
-use lib.ListN.{length, take, drop, replicate, length-replicate}
-use borrow.Author.Tests.{eq-eqb, ltb-true, ltb-false}
-use Rattle.word.specs.Buffer.{putAt}
-use Rattle.word.specs.Digits.{digitsBE}
-use Rattle.word.specs.Word.{natAt, bytesBE, bytesOf}
-use Rattle.word.proofs.Buffer.{length-put, part-put}
-use Rattle.word.proofs.Words.{length-bytes, nat-back}
-use Rattle.word.proofs.Beside.{nat-of, part-beside, nat-beside, nat-put, part-zeros}
-use Rattle.image.specs.Sizes.{Whole, commandCount}
+use lib.Dec.{lit<}
+use lib.ListN.{length, take, drop}
+use Rattle.word.specs.Word.{natAt, bytesOf}
+use Rattle.word.proofs.Words.{length-bytes}
+use Rattle.word.proofs.Beside.{nat-of}
+use Rattle.image.specs.Sizes.{commandCount}
 use Rattle.image.specs.Layout.{sizesOf}
-use Rattle.interface.specs.Tables.{imageNumber}
 use Rattle.interface.specs.Calls.{answerLength}
-use Rattle.interface.proofs.Accept.{accepted}
 use Rattle.interface.proofs.Guaranteed.{solve-length}
-use Rattle.device.specs.Device.{headCount}
-use Rattle.drive.specs.Layout.{wordRoom, imageRoom, headRoom, lengthPlace, imagePlace, headsPlace, headPlace, startPlace, answerPlace, driveLength, heldLength, heldImage, heldCommandCount, heldStart, heldAnswer, heldWaiting}
+use Rattle.device.specs.Device.{Head, mostHeads}
+use Rattle.drive.specs.Layout.{headRoom, headPlace, waitingPlace, startPlace, answerPlace, countPlace, commonPlace, ownPlace, driveLength, heldImage, heldCommandCount, heldStart, heldAnswer, heldWaiting, heldCount, heldOwn, heldCommon, heldSweeps}
 use Rattle.drive.specs.Move.{nextStart}
-use Rattle.drive.specs.Calls.{blankDrive, makeDrive, askAnswer, askDrive, commitDrive}
-use Rattle.drive.specs.Held.{headOf, zeroStart}
-use Rattle.drive.specs.Parts.{Found, Askable}
+use Rattle.drive.specs.Calls.{putShares, askAnswer, charged, putAnswer, askDrive, commitDrive, doneDrive}
+use Rattle.drive.specs.Held.{headOf}
+use Rattle.drive.specs.Parts.{Found, Placed, Askable}
 use Rattle.drive.proofs.Next.{next-length}
+use Rattle.drive.proofs.Writes.{Write, write, puts, clear, aside, puts-there, puts-nat}
+use Rattle.drive.proofs.OneHead.{Spot, inHead, inCommon, inOwn, Own, nothing, also, own-fits, own-length, own-part, own-image, own-count, own-other, same-head}
 
--- ---- the image of a drive, by its length and the bytes of its room
-same-image : (d e : List ℕ) → natAt e lengthPlace ≡ natAt d lengthPlace → ((m : ℕ) → m ≤ imageRoom → take m (drop imagePlace e) ≡ take m (drop imagePlace d)) → heldImage e ≡ heldImage d
-unfolding heldImage
-same-image d e n p = ap (λ (k : ℕ). take (min k imageRoom) (drop imagePlace e)) n ∙ p (heldLength d) (omega arith)
+-- the drive e is d with another head k and another common part
+pub record Replaced (d e : List ℕ) (k : ℕ) (head : Head) (common : ℕ) : Type 0 where
+  pub size : length e ≡ driveLength
+  pub image : heldImage e ≡ heldImage d
+  pub count-is : heldCount e ≡ heldCount d
+  pub common-is : heldCommon e ≡ common
+  pub here : headOf e k ≡ head
+  pub others : (j : ℕ) → j < mostHeads → (j ≡ k → ⊥) → headOf e j ≡ headOf d j
 
--- ---- a new drive
-blank-length : length blankDrive ≡ driveLength
-unfolding blankDrive
-blank-length = length-replicate {A = ℕ} driveLength 0
+-- from the writes of head k
+replaced : (d : List ℕ) (k : ℕ) → Placed d k → heldCommandCount d ≤ 16 → (ws : List Write) → Own k ws → (x : Head) (common : ℕ) → headOf (puts d ws) k ≡ x → heldCommon (puts d ws) ≡ common → Replaced d (puts d ws) k x common
+replaced d k p few ws own x common h c = record {
+  size = own-length k (p .inside) d (p .size) ws own;
+  image = own-image k (p .inside) d (p .size) ws own;
+  count-is = own-count k (p .inside) d (p .size) ws own;
+  common-is = c;
+  here = h;
+  others = own-other k (p .inside) d (p .size) ws own few;
+}
 
-module _ (image : List ℕ) (e : imageNumber image ≡ 0) where
-  w : Whole (sizesOf image) image
-  w = accepted image e .whole
+-- ---- the share of head k and the common part
+module _ (d : List ℕ) (k own common : ℕ) (p : Placed d k) (few : heldCommandCount d ≤ 16) (own-small : own < 256 ^ 4) (common-small : common < 256 ^ 4) where
+  abbrev putCommon : Write
+  putCommon = write commonPlace (bytesOf common)
 
-  pub image-small : length image ≤ imageRoom
-  image-small = omega (arith, w .size, w .sizes)
+  abbrev putOwn : Write
+  putOwn = write (ownPlace k) (bytesOf own)
 
-  abbrev first : List ℕ
-  first = putAt blankDrive lengthPlace (bytesOf (length image))
+  common-spot : Spot k commonPlace (length (bytesOf common))
+  common-spot = inCommon refl (length-bytes 4 common)
 
-  first-fits : lengthPlace + length (bytesOf (length image)) ≤ length blankDrive
-  first-fits = omega (arith, blank-length, length-bytes 4 (length image))
+  own-spot : Spot k (ownPlace k) (length (bytesOf own))
+  own-spot = inOwn refl (length-bytes 4 own)
 
-  first-length : length first ≡ driveLength
-  first-length = length-put blankDrive lengthPlace (bytesOf (length image)) first-fits ∙ blank-length
+  abbrev shares : List Write
+  shares = putCommon ∷ putOwn ∷ []
 
-  fits : imagePlace + length image ≤ length first
-  fits = omega (arith, first-length, image-small)
+  shares-own : Own k shares
+  shares-own = also putCommon common-spot (also putOwn own-spot nothing)
 
-  pub made-length : length (makeDrive image) ≡ driveLength
-  unfolding makeDrive
-  made-length = length-put first imagePlace image fits ∙ first-length
+  abbrev shared : List ℕ
+  shared = putShares d k own common
 
-  length-word : natAt (makeDrive image) lengthPlace ≡ length image
-  unfolding makeDrive
-  length-word =
-      nat-beside first imagePlace image fits lengthPlace (inl (omega arith))
-      ∙ nat-put blankDrive lengthPlace (length image) (omega (arith, blank-length)) (omega (arith, image-small))
+  shared-common : heldCommon shared ≡ common
+  unfolding heldCommon putShares
+  shared-common = puts-nat driveLength commonPlace common (putOwn ∷ []) d (p .size) (own-fits k (p .inside) shares-own) (aside putOwn (inl (omega arith)) clear) common-small
 
-  pub made-image : heldImage (makeDrive image) ≡ image
-  unfolding heldImage makeDrive
-  made-image =
-      let n : min (natAt (makeDrive image) lengthPlace) imageRoom ≡ length image = omega (arith, length-word, image-small) in
-      ap (λ (k : ℕ). take k (drop imagePlace (makeDrive image))) n ∙ part-put first imagePlace image fits
+  shared-own : heldOwn shared k ≡ own
+  unfolding heldOwn putShares
+  shared-own =
+      puts-nat driveLength (ownPlace k) own [] (puts d (putCommon ∷ [])) (own-length k (p .inside) d (p .size) (putCommon ∷ []) (also putCommon common-spot nothing))
+      (own-fits k (p .inside) (also putOwn own-spot nothing)) clear own-small
 
-  -- behind the image all is zeros
-  zeros : (p m : ℕ) → headsPlace ≤ p → p + m ≤ driveLength → take m (drop p (makeDrive image)) ≡ replicate m 0
-  unfolding makeDrive blankDrive
-  zeros p m l u =
-      part-beside first imagePlace image fits p m (inr (omega (arith, image-small)))
-      ∙ part-beside blankDrive lengthPlace (bytesOf (length image)) first-fits p m (inr (omega (arith, length-bytes 4 (length image))))
-      ∙ part-zeros driveLength p m u
+  shared-head : headOf shared k ≡ record { start = headOf d k .start; waiting = headOf d k .waiting; own = own }
+  unfolding putShares
+  shared-head =
+      same-head d shared (own-image k (p .inside) d (p .size) shares shares-own) few k
+      (own-part k (p .inside) d (p .size) shares shares-own (headPlace k) headRoom (aside putCommon (inl (omega (arith, p .inside))) (aside putOwn (inl (omega (arith, p .inside))) clear)))
+      own shared-own
 
-  -- of each head "a start, first zeros", and no waiting answer
-  module _ (k : ℕ) (h : k < headCount) where
-    pub made-start : heldStart (makeDrive image) k ≡ zeroStart image
-    unfolding heldStart zeroStart
-    made-start =
-        ap (λ (i : List ℕ). take (4 * commandCount (sizesOf i)) (drop (startPlace k) (makeDrive image))) made-image
-        ∙ zeros (startPlace k) (4 * commandCount (sizesOf image)) (omega arith) (omega (arith, w .sizes .n-high))
+  shares-replace : Replaced d shared k (record { start = headOf d k .start; waiting = headOf d k .waiting; own = own }) common
+  unfolding putShares
+  shares-replace = replaced d k p few shares shares-own (record { start = headOf d k .start; waiting = headOf d k .waiting; own = own }) common shared-head shared-common
 
-    pub made-waiting : heldWaiting (makeDrive image) k ≡ 0
-    unfolding heldWaiting bytesBE digitsBE
-    made-waiting = nat-back 4 0 (lit< tt) (makeDrive image) (headPlace k) (zeros (headPlace k) 4 (omega arith) (omega arith))
+-- "moves its unused share to the common part"
+pub done-replaces : (d : List ℕ) (k : ℕ) → Placed d k → heldCommandCount d ≤ 16 → heldOwn d k + heldCommon d < 256 ^ 4 → Replaced d (doneDrive d k) k (record { start = headOf d k .start; waiting = headOf d k .waiting; own = 0 }) (heldCommon d + heldOwn d k)
+unfolding doneDrive
+done-replaces d k p few small = shares-replace d k 0 (heldCommon d + heldOwn d k) p few (lit< tt) (omega arith)
 
-    pub made-head : headOf (makeDrive image) k ≡ record { start = zeroStart image; waiting = none }
-    unfolding headOf
-    made-head = rw (made-start, eq-eqb (heldWaiting (makeDrive image) k) 0 made-waiting)
+-- ---- a part of head k, and whether an answer waits: what an ask and a commit write
+module _ (d : List ℕ) (k at : ℕ) (bs : List ℕ) (n : ℕ) (p : Placed d k) (low : startPlace k ≤ at) (high : at + length bs ≤ headPlace k + headRoom) where
+  abbrev part : Write
+  part = write at bs
 
--- ---- a drive of which head k's start or answer is written, and whether an answer waits
--- another head stands before it or behind it
-beside-head : (j k : ℕ) → (j ≡ k → ⊥) → (headPlace j + headRoom ≤ headPlace k) ⊎ (headPlace k + headRoom ≤ headPlace j)
-beside-head j k n = by (ltb j k) refl
-  where
-    by : (t : Bool) → ltb j k ≡ t → (headPlace j + headRoom ≤ headPlace k) ⊎ (headPlace k + headRoom ≤ headPlace j)
-    by true e = inl (omega (arith, ltb-true j k e))
-    by false e = ⊎-elim (λ (q : k ≡ j). absurd (n (sym q))) (λ (l : k < j). inr (omega arith)) (eq-or-lt-of-le (ltb-false j k e))
+  abbrev flag : Write
+  flag = write (waitingPlace k) (bytesOf n)
 
-module _ (d bs : List ℕ) (n k at : ℕ) (inside : k < headCount) (size : length d ≡ driveLength) (low : headPlace k + wordRoom ≤ at) (high : at + length bs ≤ headPlace k + headRoom) where
-  abbrev one : List ℕ
-  one = putAt d at bs
+  abbrev head-writes : List Write
+  head-writes = part ∷ flag ∷ []
 
-  abbrev both : List ℕ
-  both = putAt one (headPlace k) (bytesOf n)
+  part-spot : Spot k at (length bs)
+  part-spot = inHead (omega arith) high
 
-  one-fits : at + length bs ≤ length d
-  one-fits = omega (arith, size)
+  flag-spot : Spot k (waitingPlace k) (length (bytesOf n))
+  flag-spot = inHead (omega arith) (omega (arith, length-bytes 4 n))
 
-  one-length : length one ≡ driveLength
-  one-length = length-put d at bs one-fits ∙ size
+  head-own : Own k head-writes
+  head-own = also part part-spot (also flag flag-spot nothing)
 
-  word-fits : headPlace k + length (bytesOf n) ≤ length one
-  word-fits = omega (arith, one-length, length-bytes 4 n)
+  abbrev written : List ℕ
+  written = puts d head-writes
 
-  written-length : length both ≡ driveLength
-  written-length = length-put one (headPlace k) (bytesOf n) word-fits ∙ one-length
+  written-image : heldImage written ≡ heldImage d
+  written-image = own-image k (p .inside) d (p .size) head-writes head-own
 
-  -- beside both
-  beside : (p m : ℕ) → (p + m ≤ headPlace k) ⊎ (headPlace k + wordRoom ≤ p) → (p + m ≤ at) ⊎ (at + length bs ≤ p) → take m (drop p both) ≡ take m (drop p d)
-  beside p m x y = part-beside one (headPlace k) (bytesOf n) word-fits p m (rw (length-bytes 4 n) x) ∙ part-beside d at bs one-fits p m y
+  written-part : take (length bs) (drop at written) ≡ bs
+  written-part = puts-there driveLength part (flag ∷ []) d (p .size) (own-fits k (p .inside) head-own) (aside flag (inr (omega (arith, length-bytes 4 n))) clear)
 
-  -- beside the head
-  outside : (p m : ℕ) → (p + m ≤ headPlace k) ⊎ (headPlace k + headRoom ≤ p) → take m (drop p both) ≡ take m (drop p d)
-  outside p m (inl l) = beside p m (inl l) (inl (omega arith))
-  outside p m (inr l) = beside p m (inr (omega arith)) (inr (omega arith))
-
-  written-image : heldImage both ≡ heldImage d
-  written-image = same-image d both (nat-of both d lengthPlace (outside lengthPlace 4 (inl (omega arith)))) (λ m h. outside imagePlace m (inl (omega arith)))
-
-  -- all of another head
-  module _ (few : heldCommandCount d ≤ 16) (j : ℕ) (other : j ≡ k → ⊥) where
-    within : (p m : ℕ) → headPlace j ≤ p → p + m ≤ headPlace j + headRoom → take m (drop p both) ≡ take m (drop p d)
-    within p m l u = by (beside-head j k other)
-      where
-        by : (headPlace j + headRoom ≤ headPlace k) ⊎ (headPlace k + headRoom ≤ headPlace j) → take m (drop p both) ≡ take m (drop p d)
-        by (inl b) = outside p m (inl (omega arith))
-        by (inr b) = outside p m (inr (omega arith))
-
-    other-start : heldStart both j ≡ heldStart d j
-    unfolding heldStart
-    other-start = ap (λ (i : List ℕ). take (4 * commandCount (sizesOf i)) (drop (startPlace j) both)) written-image ∙ within (startPlace j) (4 * heldCommandCount d) (omega arith) (omega arith)
-
-    other-answer : heldAnswer both j ≡ heldAnswer d j
-    unfolding heldAnswer
-    other-answer = ap (λ (i : List ℕ). take (answerLength (sizesOf i)) (drop (answerPlace j) both)) written-image ∙ within (answerPlace j) (answerLength (sizesOf (heldImage d))) (omega arith) (omega arith)
-
-    other-waiting : heldWaiting both j ≡ heldWaiting d j
-    unfolding heldWaiting
-    other-waiting = nat-of both d (headPlace j) (within (headPlace j) 4 (omega arith) (omega arith))
-
-    written-other : headOf both j ≡ headOf d j
-    unfolding headOf
-    written-other = rw (other-start, other-answer, other-waiting)
-
-  written-waiting : n < 256 ^ 4 → heldWaiting both k ≡ n
+  written-waiting : n < 256 ^ 4 → heldWaiting written k ≡ n
   unfolding heldWaiting
-  written-waiting f = nat-put one (headPlace k) n (omega (arith, one-length)) f
+  written-waiting small =
+      puts-nat driveLength (waitingPlace k) n [] (puts d (part ∷ [])) (own-length k (p .inside) d (p .size) (part ∷ []) (also part part-spot nothing))
+      (own-fits k (p .inside) (also flag flag-spot nothing)) clear small
 
-  -- what was written
-  written-part : take (length bs) (drop at both) ≡ bs
-  written-part = part-beside one (headPlace k) (bytesOf n) word-fits at (length bs) (inr (rw (length-bytes 4 n) low)) ∙ part-put d at bs one-fits
+  -- the sweeps stay
+  written-word : (q : ℕ) → countPlace ≤ q → natAt written q ≡ natAt d q
+  written-word q h =
+      nat-of written d q (own-part k (p .inside) d (p .size) head-writes head-own q 4 (aside part (inr (omega (arith, high, p .inside))) (aside flag (inr (omega (arith, length-bytes 4 n, p .inside))) clear)))
 
--- ---- an ask
-module _ (d : List ℕ) (k : ℕ) (state target : List ℕ) (room : ℕ) (a : Askable d k state target room) where
-  abbrev answer : List ℕ
-  answer = askAnswer d k state target
+  head-replaces : heldCommandCount d ≤ 16 → (x : Head) → headOf written k ≡ x → Replaced d written k x (heldCommon d)
+  unfolding heldCommon
+  head-replaces few x h = replaced d k p few head-writes head-own x (heldCommon d) h (written-word commonPlace (omega arith))
 
-  few : heldCommandCount d ≤ 16
-  few = a .solves .accepted .whole .sizes .n-high
-
-  answer-long : length answer ≡ answerLength (sizesOf (heldImage d))
-  unfolding askAnswer
-  answer-long = solve-length (heldImage d) state target _
-
+-- ---- an answer, and an ask
+module _ (d : List ℕ) (k : ℕ) (answer : List ℕ) (p : Placed d k) (few : heldCommandCount d ≤ 16) (long : length answer ≡ answerLength (sizesOf (heldImage d))) where
   answer-fits : answerPlace k + length answer ≤ headPlace k + headRoom
-  answer-fits = omega (arith, answer-long, few)
+  answer-fits = omega (arith, long, few)
 
-  pub asked-length : length (askDrive d k state target) ≡ driveLength
-  unfolding askDrive
-  asked-length = written-length d answer 1 k (answerPlace k) (a .inside) (a .size) (omega arith) answer-fits
+  abbrev kept : List ℕ
+  kept = putAnswer d k answer
 
-  pub asked-image : heldImage (askDrive d k state target) ≡ heldImage d
-  unfolding askDrive
-  asked-image = written-image d answer 1 k (answerPlace k) (a .inside) (a .size) (omega arith) answer-fits
+  kept-image : heldImage kept ≡ heldImage d
+  unfolding putAnswer
+  kept-image = written-image d k (answerPlace k) answer 1 p (omega arith) answer-fits
 
-  asked-start : heldStart (askDrive d k state target) k ≡ heldStart d k
-  unfolding heldStart askDrive
-  asked-start =
-      ap (λ (i : List ℕ). take (4 * commandCount (sizesOf i)) (drop (startPlace k) (askDrive d k state target))) asked-image
-      ∙ beside d answer 1 k (answerPlace k) (a .inside) (a .size) (omega arith) answer-fits (startPlace k) (4 * heldCommandCount d) (inr (omega arith)) (inl (omega (arith, few)))
+  kept-start : heldStart kept k ≡ heldStart d k
+  unfolding heldStart putAnswer
+  kept-start =
+      ap (λ (i : List ℕ). take (4 * commandCount (sizesOf i)) (drop (startPlace k) kept)) kept-image
+      ∙ own-part k (p .inside) d (p .size) _ (head-own d k (answerPlace k) answer 1 p (omega arith) answer-fits) (startPlace k) (4 * heldCommandCount d)
+      (aside (write (answerPlace k) answer) (inl (omega (arith, few))) (aside (write (waitingPlace k) (bytesOf 1)) (inr (omega (arith, length-bytes 4 1))) clear))
 
-  asked-answer : heldAnswer (askDrive d k state target) k ≡ answer
-  unfolding heldAnswer askDrive
-  asked-answer =
-      ap (λ (n : ℕ). take n (drop (answerPlace k) (askDrive d k state target))) (ap (λ (i : List ℕ). answerLength (sizesOf i)) asked-image ∙ sym answer-long)
-      ∙ written-part d answer 1 k (answerPlace k) (a .inside) (a .size) (omega arith) answer-fits
+  kept-answer : heldAnswer kept k ≡ answer
+  unfolding heldAnswer putAnswer
+  kept-answer =
+      ap (λ (n : ℕ). take n (drop (answerPlace k) kept)) (ap (λ (i : List ℕ). answerLength (sizesOf i)) kept-image ∙ sym long)
+      ∙ written-part d k (answerPlace k) answer 1 p (omega arith) answer-fits
 
-  asked-waiting : heldWaiting (askDrive d k state target) k ≡ 1
-  unfolding askDrive
-  asked-waiting = written-waiting d answer 1 k (answerPlace k) (a .inside) (a .size) (omega arith) answer-fits (lit< tt)
+  kept-waiting : heldWaiting kept k ≡ 1
+  unfolding putAnswer
+  kept-waiting = written-waiting d k (answerPlace k) answer 1 p (omega arith) answer-fits (lit< tt)
 
-  -- "replaces the waiting one"
-  pub asked-head : headOf (askDrive d k state target) k ≡ record { start = heldStart d k; waiting = some answer }
+  kept-own : heldOwn kept k ≡ heldOwn d k
+  unfolding heldOwn putAnswer
+  kept-own = written-word d k (answerPlace k) answer 1 p (omega arith) answer-fits (ownPlace k) (omega arith)
+
+  kept-head : headOf kept k ≡ record { start = headOf d k .start; waiting = some answer; own = headOf d k .own }
   unfolding headOf
-  asked-head = rw (asked-start, asked-answer, asked-waiting)
+  kept-head = rw (kept-start, kept-answer, kept-waiting, kept-own)
 
-  pub asked-other : (j : ℕ) → (j ≡ k → ⊥) → headOf (askDrive d k state target) j ≡ headOf d j
-  unfolding askDrive
-  asked-other j n = written-other d answer 1 k (answerPlace k) (a .inside) (a .size) (omega arith) answer-fits few j n
+  answer-replaces : Replaced d kept k (record { start = headOf d k .start; waiting = some answer; own = headOf d k .own }) (heldCommon d)
+  unfolding putAnswer
+  answer-replaces = head-replaces d k (answerPlace k) answer 1 p (omega arith) answer-fits few (record { start = headOf d k .start; waiting = some answer; own = headOf d k .own }) kept-head
+
+-- "writes the solve's answer and replaces the waiting one", and costs the image's sweeps, "from its own share first and then from the common
+-- part"
+module _ (d : List ℕ) (k : ℕ) (state target : List ℕ) (room : ℕ) (a : Askable d k state target room) (small : heldOwn d k + heldCommon d < 256 ^ 4) where
+  abbrev own : ℕ
+  own = heldOwn d k - heldSweeps d
+
+  abbrev common : ℕ
+  common = heldCommon d - (heldSweeps d - heldOwn d k)
+
+  paid : Replaced d (charged d k) k (record { start = headOf d k .start; waiting = headOf d k .waiting; own = own }) common
+  unfolding charged
+  paid = shares-replace d k own common (a .placed) (a .solves .accepted .whole .sizes .n-high) (omega arith) (omega arith)
+
+  pub ask-replaces : Replaced d (askDrive d k state target) k (record { start = headOf d k .start; waiting = some (askAnswer d k state target); own = own }) common
+  unfolding askDrive askAnswer
+  ask-replaces =
+      let e = charged d k in
+      let p : Placed e k = record { inside = a .placed .inside; size = paid .size; counted = rw (paid .count-is) (a .placed .counted) } in
+      let few : heldCommandCount e ≤ 16 = rw (paid .image) (a .solves .accepted .whole .sizes .n-high) in
+      let answer = askAnswer d k state target in
+      let r = answer-replaces e k answer p few (solve-length (heldImage d) state target _ ∙ ap (λ (i : List ℕ). answerLength (sizesOf i)) (sym (paid .image))) in
+      record {
+        size = r .size;
+        image = r .image ∙ paid .image;
+        count-is = r .count-is ∙ paid .count-is;
+        common-is = r .common-is ∙ paid .common-is;
+        here = r .here ∙ ap {B = Head} (λ (x : Head). record { start = x .start; waiting = some answer; own = x .own }) (paid .here);
+        others = λ j h n. r .others j h n ∙ paid .others j h n;
+      }
 
 -- ---- a commit
-module _ (d : List ℕ) (k : ℕ) (inside : k < headCount) (f : Found d) where
+module _ (d : List ℕ) (k : ℕ) (p : Placed d k) (f : Found d) where
   abbrev next : List ℕ
   next = nextStart (heldImage d) (heldAnswer d k)
 
   next-fits : startPlace k + length next ≤ headPlace k + headRoom
   next-fits = omega (arith, next-length (heldImage d) (heldAnswer d k), f .whole .sizes .n-high)
 
-  pub committed-length : length (commitDrive d k) ≡ driveLength
-  unfolding commitDrive
-  committed-length = written-length d next 0 k (startPlace k) inside (f .size) (omega arith) next-fits
+  abbrev committed : List ℕ
+  committed = commitDrive d k
 
-  pub committed-image : heldImage (commitDrive d k) ≡ heldImage d
+  committed-image : heldImage committed ≡ heldImage d
   unfolding commitDrive
-  committed-image = written-image d next 0 k (startPlace k) inside (f .size) (omega arith) next-fits
+  committed-image = written-image d k (startPlace k) next 0 p (omega arith) next-fits
 
-  pub committed-start : heldStart (commitDrive d k) k ≡ next
+  pub committed-start : heldStart committed k ≡ next
   unfolding heldStart commitDrive
   committed-start =
-      ap (λ (n : ℕ). take n (drop (startPlace k) (commitDrive d k))) (ap (λ (i : List ℕ). 4 * commandCount (sizesOf i)) committed-image ∙ sym (next-length (heldImage d) (heldAnswer d k)))
-      ∙ written-part d next 0 k (startPlace k) inside (f .size) (omega arith) next-fits
+      ap (λ (n : ℕ). take n (drop (startPlace k) committed)) (ap (λ (i : List ℕ). 4 * commandCount (sizesOf i)) committed-image ∙ sym (next-length (heldImage d) (heldAnswer d k)))
+      ∙ written-part d k (startPlace k) next 0 p (omega arith) next-fits
 
-  committed-waiting : heldWaiting (commitDrive d k) k ≡ 0
+  committed-waiting : heldWaiting committed k ≡ 0
   unfolding commitDrive
-  committed-waiting = written-waiting d next 0 k (startPlace k) inside (f .size) (omega arith) next-fits (lit< tt)
+  committed-waiting = written-waiting d k (startPlace k) next 0 p (omega arith) next-fits (lit< tt)
+
+  committed-own : heldOwn committed k ≡ heldOwn d k
+  unfolding heldOwn commitDrive
+  committed-own = written-word d k (startPlace k) next 0 p (omega arith) next-fits (ownPlace k) (omega arith)
+
+  committed-head : headOf committed k ≡ record { start = next; waiting = none; own = heldOwn d k }
+  unfolding headOf
+  committed-head = rw (committed-start, committed-waiting, committed-own)
 
   -- "the next start; the waiting answer is then used up"
-  pub committed-head : headOf (commitDrive d k) k ≡ record { start = next; waiting = none }
-  unfolding headOf
-  committed-head = rw (committed-start, committed-waiting)
-
-  pub committed-other : (j : ℕ) → (j ≡ k → ⊥) → headOf (commitDrive d k) j ≡ headOf d j
+  pub commit-replaces : Replaced d committed k (record { start = next; waiting = none; own = heldOwn d k }) (heldCommon d)
   unfolding commitDrive
-  committed-other j n = written-other d next 0 k (startPlace k) inside (f .size) (omega arith) next-fits (f .whole .sizes .n-high) j n
+  commit-replaces = head-replaces d k (startPlace k) next 0 p (omega arith) next-fits (f .whole .sizes .n-high) (record { start = next; waiting = none; own = heldOwn d k }) committed-head

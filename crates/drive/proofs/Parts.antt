@@ -14,7 +14,7 @@ use Rattle.image.specs.declared.Sizes.{Sizes}
 use Rattle.image.specs.Sizes.{Sound, commandCount}
 use Rattle.image.specs.Layout.{sizesOf}
 use Rattle.interface.specs.Calls.{answerLength}
-use Rattle.device.specs.Device.{headCount}
+use Rattle.device.specs.Device.{mostHeads}
 use Rattle.drive.specs.Layout.{imagePlace, heldLength, startPlace, answerPlace, heldImage, heldCommandCount, heldStart, heldAnswer}
 use Rattle.drive.specs.Move.{movedAt, nextStart}
 use Rattle.drive.specs.Parts.{Found, Moved}
@@ -39,7 +39,7 @@ module _ (d : List ℕ) (z : Sizes) (e : z ≡ sizesOf (heldImage d)) where
       let n : p + answerLength z - p ≡ answerLength (sizesOf (heldImage d)) = omega (arith, ap commandCount e) in
       ap₂ (λ (m q : ℕ). take m (drop q d)) n b
 
-  pub answer-length : Found d → (k : ℕ) → k < headCount → length (heldAnswer d k) ≡ answerLength z
+  pub answer-length : Found d → (k : ℕ) → k < mostHeads → length (heldAnswer d k) ≡ answerLength z
   unfolding heldAnswer
   answer-length f k h =
       let few : heldCommandCount d ≤ 16 = f .whole .sizes .n-high in

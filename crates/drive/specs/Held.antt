@@ -10,16 +10,16 @@ use Rattle.image.specs.Layout.{sizesOf}
 use Rattle.interface.specs.Tables.{imageNumber}
 use Rattle.interface.specs.Calls.{solveNumber, solveAnswer}
 use Rattle.device.specs.Solver.{Solver}
-use Rattle.device.specs.Device.{Head, Device, headCount}
-use Rattle.drive.specs.Layout.{heldImage, heldStart, heldAnswer}
+use Rattle.device.specs.Device.{Head, Device}
+use Rattle.drive.specs.Layout.{heldImage, heldStart, heldAnswer, heldHeads, heldOwn, heldCommon}
 use Rattle.drive.specs.Move.{nextStart, firstLength, firstCommands}
 use Rattle.drive.specs.Calls.{idleAt}
 
 unfoldable pub headOf : List ℕ → ℕ → Head
-headOf d k = record { start = heldStart d k; waiting = cond (idleAt d k) none (some (heldAnswer d k)) }
+headOf d k = record { start = heldStart d k; waiting = cond (idleAt d k) none (some (heldAnswer d k)); own = heldOwn d k }
 
 unfoldable pub deviceOf : List ℕ → Device
-deviceOf d = record { image = heldImage d; heads = tab (headOf d) headCount }
+deviceOf d = record { image = heldImage d; heads = tab (headOf d) (heldHeads d); common = heldCommon d }
 
 -- "a start, first zeros": 4n bytes, each 0
 unfoldable pub zeroStart : List ℕ → List ℕ
@@ -35,4 +35,5 @@ solver = record {
   nextStart = nextStart;
   firstCommands = firstCommands;
   firstLength = firstLength;
+  sweeps = λ image. sizesOf image .sweeps;
 }

@@ -1,5 +1,6 @@
--- Requests 9 and 10: where a drive's parts stand in its bytes, and what they hold, of every byte string. Each place is derived from the one
--- before. Bytes of a room that its part does not fill are zeros from make or a new image on; an ask and a commit leave them. Assumes nothing.
+-- Requests 9 to 11: where a drive's parts stand in its bytes, and what they hold, of every byte string. Each place is derived from the one
+-- before. Bytes of a room that its part does not fill, and those of a head that is not made, are zeros from make on; a new image writes zeros
+-- there too, but for shares, and no other call writes them. Assumes nothing.
 use Prim.Native.Nat.{ℕ, _+_, _*_, min}
 use mathlib.Core.List.{List}
 use lib.ListN.{take, drop}
@@ -7,7 +8,7 @@ use Rattle.word.specs.Word.{natAt}
 use Rattle.image.specs.Sizes.{commandCount}
 use Rattle.image.specs.Layout.{sizesOf}
 use Rattle.interface.specs.Calls.{answerLength}
-use Rattle.device.specs.Device.{headCount}
+use Rattle.device.specs.Device.{mostHeads}
 
 -- ---- rooms: of a word, of the largest image, start and answer, which have 16 commands, 12 state and 4 target values
 abbrev pub wordRoom : ℕ
@@ -32,7 +33,7 @@ answerOffset = startOffset + startRoom
 abbrev pub headRoom : ℕ
 headRoom = answerOffset + answerRoom
 
--- ---- places: the image's length, the image, then head after head
+-- ---- places: the image's length, the image, then head after head; behind these their number, the common sweeps, and share after share
 abbrev pub lengthPlace : ℕ
 lengthPlace = 0
 
@@ -54,8 +55,17 @@ startPlace k = headPlace k + startOffset
 abbrev pub answerPlace : ℕ → ℕ
 answerPlace k = headPlace k + answerOffset
 
+abbrev pub countPlace : ℕ
+countPlace = headPlace mostHeads
+
+abbrev pub commonPlace : ℕ
+commonPlace = countPlace + wordRoom
+
+abbrev pub ownPlace : ℕ → ℕ
+ownPlace k = commonPlace + wordRoom + wordRoom * k
+
 abbrev pub driveLength : ℕ
-driveLength = headPlace headCount
+driveLength = ownPlace mostHeads
 
 -- ---- parts
 -- "one image", as long as its length says, and no longer than its room
@@ -79,3 +89,21 @@ heldWaiting d k = natAt d (waitingPlace k)
 
 unfoldable pub heldAnswer : List ℕ → ℕ → List ℕ
 heldAnswer d k = take (answerLength (sizesOf (heldImage d))) (drop (answerPlace k) d)
+
+-- "up to four heads, counted when the drive is made": the word, and of how many there are bytes
+unfoldable pub heldCount : List ℕ → ℕ
+heldCount d = natAt d countPlace
+
+abbrev pub heldHeads : List ℕ → ℕ
+heldHeads d = min (heldCount d) mostHeads
+
+-- what head k "has left of its own share", and what is left of the "common part"
+unfoldable pub heldOwn : List ℕ → ℕ → ℕ
+heldOwn d k = natAt d (ownPlace k)
+
+unfoldable pub heldCommon : List ℕ → ℕ
+heldCommon d = natAt d commonPlace
+
+-- what an ask costs: "the image's sweeps"
+abbrev pub heldSweeps : List ℕ → ℕ
+heldSweeps d = sizesOf (heldImage d) .sweeps

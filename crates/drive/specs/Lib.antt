@@ -3,6 +3,6 @@ pub mod Layout
 pub mod Move
 pub mod Calls
 pub mod Held
+pub mod Parts
 pub mod Run
 pub mod Apart
-pub mod Parts

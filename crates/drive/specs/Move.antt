@@ -40,7 +40,7 @@ commandOf z step motor = step * z .nu + motor
 abbrev pub answeredAt : Sizes → List ℕ → ℕ → ℕ → ℤ
 answeredAt z answer step motor = wordAt answer (4 * commandOf z step motor)
 
--- a value "held to the limits" of a motor at a step
+-- a value held to the limits of a motor at a step
 abbrev pub clampAt : Sizes → List ℕ → ℕ → ℕ → ℤ → ℤ
 clampAt z image step motor t = clamp (lowerAt z image (commandOf z step motor)) (upperAt z image (commandOf z step motor)) t
 

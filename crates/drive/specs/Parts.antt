@@ -1,5 +1,5 @@
 -- What the code of the calls asks for. Assumes nothing.
-use Prim.Native.Nat.{ℕ, _<_}
+use Prim.Native.Nat.{ℕ, _+_, _<_, _≤_}
 use mathlib.Core.List.{List}
 use mathlib.Core.Path.{_≡_}
 use lib.IntN.{ℤ, pos}
@@ -11,8 +11,8 @@ use Rattle.image.specs.Sizes.{Whole, commandCount}
 use Rattle.image.specs.Layout.{sizesOf}
 use Rattle.interface.specs.Calls.{answerLength}
 use Rattle.interface.specs.Accepted.{Solvable, Dominant}
-use Rattle.device.specs.Device.{headCount}
-use Rattle.drive.specs.Layout.{driveLength, heldImage, heldStart}
+use Rattle.device.specs.Device.{mostHeads}
+use Rattle.drive.specs.Layout.{driveLength, heldImage, heldStart, heldCount, heldOwn, heldCommon, heldSweeps}
 use Rattle.drive.specs.Move.{movedAt}
 
 -- a drive whose parts can be found: of its exact length, its image of a right length and sizes
@@ -20,13 +20,25 @@ pub record Found (d : List ℕ) : Type 0 where
   pub size : length d ≡ driveLength
   pub whole : Whole (sizesOf (heldImage d)) (heldImage d)
 
+-- one that has head k
+pub record Placed (d : List ℕ) (k : ℕ) : Type 0 where
+  pub inside : k < mostHeads
+  pub size : length d ≡ driveLength
+  pub counted : k < heldCount d
+
+-- one of 1 to 4 heads
+pub record Counted (d : List ℕ) : Type 0 where
+  pub size : length d ≡ driveLength
+  pub low : 1 ≤ heldCount d
+  pub high : heldCount d ≤ mostHeads
+
 -- one that passes every check of an ask of head k
 pub record Askable (d : List ℕ) (k : ℕ) (state target : List ℕ) (room : ℕ) : Type 0 where
-  pub inside : k < headCount
-  pub size : length d ≡ driveLength
+  pub placed : Placed d k
   pub solves : Solvable (heldImage d) state target (heldStart d k)
   pub dominant : Dominant (heldImage d)
   pub room-is : room ≡ answerLength (sizesOf (heldImage d))
+  pub enough : heldSweeps d ≤ heldOwn d k + heldCommon d
 
 -- x is command k of the next start, and a word
 abbrev pub MovedWord : Sizes → List ℕ → List ℕ → ℕ → ℤ → Type 0

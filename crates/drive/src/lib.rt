@@ -2,10 +2,10 @@
 // the calls on a drive's bytes as definitions in specs/, and in proofs/ that they are the calls on the drive that the bytes hold.
 ghost use mathlib.Core.Path.{_≡_};
 ghost use Prim.Native.Nat.{_<_};
-ghost use Rattle.device.specs.Device.{headCount};
-ghost use Rattle.drive.specs.Layout.{waitingPlace, startPlace, answerPlace};
+ghost use Rattle.device.specs.Device.{mostHeads};
+ghost use Rattle.drive.specs.Layout.{waitingPlace, startPlace, answerPlace, ownPlace};
 
-pub const HEAD_COUNT: usize = 2;
+pub const MOST_HEADS: usize = 4;
 
 const WORD_ROOM: usize = 4;
 
@@ -27,11 +27,17 @@ pub const IMAGE_PLACE: usize = LENGTH_PLACE + WORD_ROOM;
 
 const HEADS_PLACE: usize = IMAGE_PLACE + IMAGE_ROOM;
 
-pub const DRIVE_LENGTH: usize = HEADS_PLACE + HEAD_ROOM * HEAD_COUNT;
+pub const COUNT_PLACE: usize = HEADS_PLACE + HEAD_ROOM * MOST_HEADS;
+
+pub const COMMON_PLACE: usize = COUNT_PLACE + WORD_ROOM;
+
+const OWNS_PLACE: usize = COMMON_PLACE + WORD_ROOM;
+
+pub const DRIVE_LENGTH: usize = OWNS_PLACE + WORD_ROOM * MOST_HEADS;
 
 // Where it is said whether an answer of head k waits.
 pub fn waiting_place(k: usize) -> usize
-    requires { ⌜ k < headCount ⌝ }
+    requires { ⌜ k < mostHeads ⌝ }
     ensures { λ r. ⌜ r ≡ waitingPlace k ⌝ }
 {
     HEADS_PLACE + HEAD_ROOM * k
@@ -39,7 +45,7 @@ pub fn waiting_place(k: usize) -> usize
 
 // Where the start of head k stands.
 pub fn start_place(k: usize) -> usize
-    requires { ⌜ k < headCount ⌝ }
+    requires { ⌜ k < mostHeads ⌝ }
     ensures { λ r. ⌜ r ≡ startPlace k ⌝ }
 {
     HEADS_PLACE + HEAD_ROOM * k + START_OFFSET
@@ -47,8 +53,16 @@ pub fn start_place(k: usize) -> usize
 
 // Where the answer of head k stands.
 pub fn answer_place(k: usize) -> usize
-    requires { ⌜ k < headCount ⌝ }
+    requires { ⌜ k < mostHeads ⌝ }
     ensures { λ r. ⌜ r ≡ answerPlace k ⌝ }
 {
     HEADS_PLACE + HEAD_ROOM * k + ANSWER_OFFSET
+}
+
+// Where it is said what head k has left of its own share.
+pub fn own_place(k: usize) -> usize
+    requires { ⌜ k < mostHeads ⌝ }
+    ensures { λ r. ⌜ r ≡ ownPlace k ⌝ }
+{
+    OWNS_PLACE + WORD_ROOM * k
 }
