@@ -1,27 +1,22 @@
-// Ask: a solve from the held start, for the caller and for the drive.
+// Ask: a solve from the held start, for the caller and for the drive, and what it costs.
 ghost use mathlib.Core.Path.{_≡_};
 ghost use mathlib.Core.Bool.{cond};
 ghost use Prim.Native.Nat.{_+_, _<_, _≤_};
 ghost use lib.Dec.{eqb};
 ghost use lib.ListN.{length};
-ghost use Rattle.word.specs.Buffer.{putAt};
-ghost use Rattle.word.specs.Word.{bytesOf};
+ghost use Rattle.interface.specs.Calls.{solveNumber};
 ghost use Rattle.interface.specs.Demand.{Guarantee};
-ghost use Rattle.device.specs.Device.{headCount};
-ghost use Rattle.drive.specs.Layout.{driveLength, waitingPlace, answerPlace, heldImage, heldStart};
-ghost use Rattle.drive.specs.Calls.{askNumber, askAnswer, askDrive};
-ghost use Rattle.drive.specs.Parts.{Askable};
+ghost use Rattle.device.specs.Device.{mostHeads};
+ghost use Rattle.drive.specs.Layout.{driveLength, answerPlace, heldImage, heldStart};
+ghost use Rattle.drive.specs.Calls.{askNumber, askAnswer, putAnswer, askDrive};
+ghost use Rattle.drive.specs.Parts.{Found, Askable};
 use drive::IMAGE_PLACE;
 
-// 3 for the head, 15 for the drive's length, then the number of a solve on the held image from the head's start. The image's sizes come
-// first, since they say where the start ends.
-fn ask_number(drive: &[u8], k: usize, state: &[u8], target: &[u8], room: usize) -> u32
-    ensures { λ r. ⌜ r ≡ askNumber (now (drive .entry)) k (now (state .entry)) (now (target .entry)) room ⌝ }
+// The number of a solve on the held image from the head's start.
+fn held_number(drive: &[u8], k: usize, state: &[u8], target: &[u8], room: usize) -> u32
+    requires { ⌜ Found (now drive) × (k < mostHeads) ⌝ }
+    ensures { λ r. ⌜ r ≡ solveNumber (heldImage (now (drive .entry))) (now (state .entry)) (now (target .entry)) (heldStart (now (drive .entry)) k) room ⌝ }
 {
-    let number = drive_parts::parts_number(drive, k);
-    if number != 0 {
-        return number;
-    }
     let end = drive_parts::image_end(drive);
     let start = drive::start_place(k);
     let last = drive_parts::start_end(drive, k);
@@ -32,6 +27,25 @@ fn ask_number(drive: &[u8], k: usize, state: &[u8], target: &[u8], room: usize) 
         &drive[start..last],
         room,
     )
+}
+
+// The head and the drive's length, the solve's own number, 20. The image's sizes come first, since they say where the start ends.
+fn ask_number(drive: &[u8], k: usize, state: &[u8], target: &[u8], room: usize) -> u32
+    ensures { λ r. ⌜ r ≡ askNumber (now (drive .entry)) k (now (state .entry)) (now (target .entry)) room ⌝ }
+{
+    let parts = drive_parts::parts_number(drive, k);
+    if parts != 0 {
+        return parts;
+    }
+    let number = held_number(drive, k, state, target, room);
+    if number != 0 {
+        return number;
+    }
+    if drive_shares::affords(drive, k) {
+        0
+    } else {
+        20
+    }
 }
 
 // The solve on the held image from the head's start.
@@ -53,8 +67,8 @@ fn held_solve(drive: &[u8], k: usize, state: &[u8], target: &[u8], answer: &mut 
 
 // An answer is kept as the head's waiting one.
 fn keep(drive: &mut [u8], k: usize, answer: &[u8])
-    requires { ⌜ (k < headCount) × (length (now drive) ≡ driveLength) × (answerPlace k + length (now answer) ≤ driveLength) ⌝ }
-    ensures { λ _. ⌜ now (drive .exit) ≡ putAt (putAt (now (drive .entry)) (answerPlace k) (now (answer .entry))) (waitingPlace k) (bytesOf 1) ⌝ }
+    requires { ⌜ (k < mostHeads) × (length (now drive) ≡ driveLength) × (answerPlace k + length (now answer) ≤ driveLength) ⌝ }
+    ensures { λ _. ⌜ now (drive .exit) ≡ putAnswer (now (drive .entry)) k (now (answer .entry)) ⌝ }
 {
     let place = drive::answer_place(k);
     let end = place + answer.len();
@@ -62,7 +76,7 @@ fn keep(drive: &mut [u8], k: usize, answer: &[u8])
     word::put_nat(drive, drive::waiting_place(k), 1);
 }
 
-// Solves from the head's start, for the caller and for the drive.
+// Solves from the head's start, for the caller and for the drive, and takes the image's sweeps.
 pub fn ask(drive: &mut [u8], head: u32, state: &[u8], target: &[u8], answer: &mut [u8]) -> u32
     ensures number { λ r. ⌜ r ≡ askNumber (now (drive .entry)) head (now (state .entry)) (now (target .entry)) (length (now (answer .entry))) ⌝ }
     ensures answer { λ r. ⌜ now (answer .exit) ≡ cond (eqb r 0) (askAnswer (now (drive .entry)) head (now (state .entry)) (now (target .entry))) (now (answer .entry)) ⌝ }
@@ -73,6 +87,7 @@ pub fn ask(drive: &mut [u8], head: u32, state: &[u8], target: &[u8], answer: &mu
     let number = ask_number(drive, k, state, target, answer.len());
     if number == 0 {
         held_solve(drive, k, state, target, answer);
+        drive_shares::charge(drive, k);
         keep(drive, k, answer);
     }
     number

@@ -7,7 +7,7 @@ ghost use lib.ListN.{length, take};
 ghost use Rattle.word.specs.Buffer.{putAt};
 ghost use Rattle.word.specs.Word.{Words, wordsOut};
 ghost use Rattle.image.specs.Layout.{sizesOf};
-ghost use Rattle.device.specs.Device.{headCount};
+ghost use Rattle.device.specs.Device.{mostHeads};
 ghost use Rattle.drive.specs.Layout.{startPlace, heldImage, heldAnswer};
 ghost use Rattle.drive.specs.Move.{firstLength};
 ghost use Rattle.drive.specs.Calls.{commitNumber, commitAnswer, commitDrive};
@@ -15,7 +15,7 @@ ghost use Rattle.drive.specs.Parts.{Found, Moved};
 use drive::IMAGE_PLACE;
 use image::Sizes;
 
-// 3 for the head, 15 and the held image's length and sizes, 15 for the commands' length, 18.
+// The head and the drive's length, the held image's length and sizes, 15 for the commands' length, 18.
 fn commit_number(drive: &[u8], k: usize, room: usize) -> u32
     ensures { λ r. ⌜ r ≡ commitNumber (now (drive .entry)) k room ⌝ }
 {
@@ -35,7 +35,7 @@ fn commit_number(drive: &[u8], k: usize, room: usize) -> u32
 
 // The first commands of the head's waiting answer are written.
 fn issue(drive: &[u8], k: usize, commands: &mut [u8])
-    requires { ⌜ Found (now drive) × (k < headCount) × (length (now commands) ≡ firstLength (heldImage (now drive))) ⌝ }
+    requires { ⌜ Found (now drive) × (k < mostHeads) × (length (now commands) ≡ firstLength (heldImage (now drive))) ⌝ }
     ensures { λ _. ⌜ now (commands .exit) ≡ commitAnswer (now (drive .entry)) k ⌝ }
 {
     let place = drive::answer_place(k);
@@ -45,7 +45,7 @@ fn issue(drive: &[u8], k: usize, commands: &mut [u8])
 
 // The next start, of the head's waiting answer.
 fn held_next(drive: &[u8], k: usize, z: Sizes) -> [i64; 16]
-    requires { ⌜ Found (now drive) × (k < headCount) × (z ≡ sizesOf (heldImage (now drive))) ⌝ }
+    requires { ⌜ Found (now drive) × (k < mostHeads) × (z ≡ sizesOf (heldImage (now drive))) ⌝ }
     ensures { λ r. ⌜ Moved z (heldImage (now (drive .entry))) (heldAnswer (now (drive .entry)) k) r ⌝ }
 {
     let end = drive_parts::image_end(drive);
@@ -56,7 +56,7 @@ fn held_next(drive: &[u8], k: usize, z: Sizes) -> [i64; 16]
 
 // The first n words of an array are written as the head's start.
 fn put_start(drive: &mut [u8], k: usize, n: usize, next: [i64; 16])
-    requires { ⌜ (k < headCount) × (n ≤ length next) × (startPlace k + 4 * n ≤ length (now drive)) × Words (take n next) ⌝ }
+    requires { ⌜ (k < mostHeads) × (n ≤ length next) × (startPlace k + 4 * n ≤ length (now drive)) × Words (take n next) ⌝ }
     ensures { λ _. ⌜ now (drive .exit) ≡ putAt (now (drive .entry)) (startPlace k) (wordsOut (take n next)) ⌝ }
 {
     let place = drive::start_place(k);
@@ -66,7 +66,7 @@ fn put_start(drive: &mut [u8], k: usize, n: usize, next: [i64; 16])
 
 // The next start is written, and the answer no longer waits.
 fn move_on(drive: &mut [u8], k: usize)
-    requires { ⌜ Found (now drive) × (k < headCount) ⌝ }
+    requires { ⌜ Found (now drive) × (k < mostHeads) ⌝ }
     ensures { λ _. ⌜ now (drive .exit) ≡ commitDrive (now (drive .entry)) k ⌝ }
 {
     let z = drive_parts::held_sizes(drive);

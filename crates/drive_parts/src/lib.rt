@@ -3,15 +3,17 @@ ghost use mathlib.Core.Path.{_≡_};
 ghost use Prim.Native.Nat.{_+_, _*_, _<_};
 ghost use lib.ListN.{length};
 ghost use Rattle.image.specs.Layout.{sizesOf};
-ghost use Rattle.device.specs.Device.{headCount};
+ghost use Rattle.device.specs.Device.{mostHeads};
 ghost use Rattle.drive.specs.Layout.{driveLength, imagePlace, startPlace, heldLength, heldImage, heldCommandCount};
-ghost use Rattle.drive.specs.Calls.{partsNumber};
+ghost use Rattle.drive.specs.Calls.{placeNumber, partsNumber};
+ghost use Rattle.device.specs.Call.{isCount};
 ghost use Rattle.drive.specs.Parts.{Found};
+use drive::COUNT_PLACE;
 use drive::DRIVE_LENGTH;
-use drive::HEAD_COUNT;
 use drive::IMAGE_PLACE;
 use drive::IMAGE_ROOM;
 use drive::LENGTH_PLACE;
+use drive::MOST_HEADS;
 use image::Sizes;
 
 // The bytes of one buffer, written to another of the same length.
@@ -39,15 +41,40 @@ pub fn image_end(drive: &[u8]) -> usize
     }
 }
 
-// 3 for the head, 15 for the drive's length, then the held image's length and sizes.
-pub fn parts_number(drive: &[u8], k: usize) -> u32
-    ensures { λ r. ⌜ r ≡ partsNumber (now (drive .entry)) k ⌝ }
+// Whether a drive can have that many heads.
+pub fn is_count(heads: u64) -> bool
+    ensures { λ r. ⌜ r ≡ isCount heads ⌝ }
 {
-    if HEAD_COUNT <= k {
+    if 1 <= heads {
+        heads <= MOST_HEADS as u64
+    } else {
+        false
+    }
+}
+
+// 3 for a head that no drive has, 15 for the drive's length, 3 for a head that this drive has not.
+pub fn place_number(drive: &[u8], k: usize) -> u32
+    ensures { λ r. ⌜ r ≡ placeNumber (now (drive .entry)) k ⌝ }
+{
+    if MOST_HEADS <= k {
         return 3;
     }
     if drive.len() != DRIVE_LENGTH {
         return 15;
+    }
+    if word::nat_at(drive, COUNT_PLACE) <= k as u64 {
+        return 3;
+    }
+    0
+}
+
+// The head and the drive's length, then the held image's length and sizes.
+pub fn parts_number(drive: &[u8], k: usize) -> u32
+    ensures { λ r. ⌜ r ≡ partsNumber (now (drive .entry)) k ⌝ }
+{
+    let number = place_number(drive, k);
+    if number != 0 {
+        return number;
     }
     let end = image_end(drive);
     integrity::head_number(&drive[IMAGE_PLACE..end])
@@ -64,7 +91,7 @@ pub fn held_sizes(drive: &[u8]) -> Sizes
 
 // Where the start of head k ends.
 pub fn start_end(drive: &[u8], k: usize) -> usize
-    requires { ⌜ Found (now drive) × (k < headCount) ⌝ }
+    requires { ⌜ Found (now drive) × (k < mostHeads) ⌝ }
     ensures { λ r. ⌜ r ≡ startPlace k + 4 * heldCommandCount (now (drive .entry)) ⌝ }
 {
     let z = held_sizes(drive);

@@ -8,7 +8,7 @@ ghost use Rattle.interface.specs.Demand.{Guarantee};
 ghost use Rattle.intake.specs.Intake.{intakeNumber, intakeImage};
 ghost use Rattle.design_page.specs.Page.{pageNumber, sheetPage};
 ghost use Rattle.drive.specs.Layout.{heldImage, heldStart};
-ghost use Rattle.drive.specs.Calls.{makeNumber, makeDrive, newNumber, askNumber, askAnswer, askDrive, commitNumber, commitAnswer, commitDrive};
+ghost use Rattle.drive.specs.Calls.{makeNumber, makeDrive, newNumber, imaged, placeNumber, askNumber, askAnswer, askDrive, commitNumber, commitAnswer, commitDrive, periodNumber, periodDrive, doneDrive};
 
 // Reads a design sheet and writes its image.
 #[no_mangle]
@@ -61,25 +61,34 @@ pub extern "C" fn gantry_solve(
     number
 }
 
-// Makes a drive of an image: it holds the image and of each head a start of zeros, and no answer waits.
+// Makes a drive of an image and 1 to 4 heads: each has a start of zeros and no sweeps, and no answer waits.
 #[no_mangle]
-pub extern "C" fn gantry_make(image: &[u8], drive: &mut [u8]) -> u32
-    ensures number { λ r. ⌜ r ≡ makeNumber (now (image .entry)) (length (now (drive .entry))) ⌝ }
-    ensures drive { λ r. ⌜ now (drive .exit) ≡ cond (eqb r 0) (makeDrive (now (image .entry))) (now (drive .entry)) ⌝ }
+pub extern "C" fn gantry_make(image: &[u8], heads: u32, drive: &mut [u8]) -> u32
+    ensures number { λ r. ⌜ r ≡ makeNumber (now (image .entry)) heads (length (now (drive .entry))) ⌝ }
+    ensures drive { λ r. ⌜ now (drive .exit) ≡ cond (eqb r 0) (makeDrive (now (image .entry)) heads) (now (drive .entry)) ⌝ }
 {
-    drive_make::make(image, drive)
+    drive_make::make(image, heads, drive)
 }
 
-// Replaces the image of a drive in which no answer waits, and sets both heads' starts to zero: it is then as made.
+// Begins a period of that many sweeps: each head owns an even share of them, the remainder is common, and what was left lapses.
+#[no_mangle]
+pub extern "C" fn gantry_period(drive: &mut [u8], sweeps: u16) -> u32
+    ensures number { λ r. ⌜ r ≡ periodNumber (now (drive .entry)) ⌝ }
+    ensures drive { λ r. ⌜ now (drive .exit) ≡ cond (eqb r 0) (periodDrive (now (drive .entry)) sweeps) (now (drive .entry)) ⌝ }
+{
+    drive_period::period(drive, sweeps)
+}
+
+// Replaces the image of a drive in which no answer waits, and sets every head's start to zero; the sweeps stay.
 #[no_mangle]
 pub extern "C" fn gantry_new_image(drive: &mut [u8], image: &[u8]) -> u32
     ensures number { λ r. ⌜ r ≡ newNumber (now (drive .entry)) (now (image .entry)) ⌝ }
-    ensures drive { λ r. ⌜ now (drive .exit) ≡ cond (eqb r 0) (makeDrive (now (image .entry))) (now (drive .entry)) ⌝ }
+    ensures drive { λ r. ⌜ now (drive .exit) ≡ cond (eqb r 0) (imaged (now (drive .entry)) (now (image .entry))) (now (drive .entry)) ⌝ }
 {
     drive_image::new_image(drive, image)
 }
 
-// Solves on a drive's image from a head's start, writes the answer, and keeps it as the head's waiting one.
+// Solves on a drive's image from a head's start, writes the answer, keeps it as the head's waiting one, and takes the image's sweeps.
 #[no_mangle]
 pub extern "C" fn gantry_ask(
     drive: &mut [u8],
@@ -104,4 +113,13 @@ pub extern "C" fn gantry_commit(drive: &mut [u8], head: u32, commands: &mut [u8]
     ensures drive { λ r. ⌜ now (drive .exit) ≡ cond (eqb r 0) (commitDrive (now (drive .entry)) head) (now (drive .entry)) ⌝ }
 {
     drive_commit::commit(drive, head, commands)
+}
+
+// A head is done: what it has left of its own share becomes common.
+#[no_mangle]
+pub extern "C" fn gantry_done(drive: &mut [u8], head: u32) -> u32
+    ensures number { λ r. ⌜ r ≡ placeNumber (now (drive .entry)) head ⌝ }
+    ensures drive { λ r. ⌜ now (drive .exit) ≡ cond (eqb r 0) (doneDrive (now (drive .entry)) head) (now (drive .entry)) ⌝ }
+{
+    drive_period::done(drive, head)
 }

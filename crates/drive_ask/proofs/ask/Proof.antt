@@ -1,16 +1,14 @@
 -- `drive_ask::ask` meets its contract; the guarantee is demand 3 and request 8, of the answer's bytes. Assumes nothing.
 use native.Mathlib.Omega.{arith}
-use mathlib.Core.Path.{sym, ap, subst, _∙_}
+use mathlib.Core.Path.{sym, ap₂, subst, _∙_}
 use mathlib.Core.List.{List}
 use Prim.Native.Nat.{ℕ}
 use lib.ListN.{length}
 use borrow.Author.Tests.{eq-eqb, ne-eqb}
-use Rattle.word.specs.Buffer.{putAt}
-use Rattle.word.specs.Word.{bytesOf}
 use Rattle.interface.specs.Demand.{Guarantee}
 use Rattle.interface.proofs.Guaranteed.{guaranteed}
-use Rattle.drive.specs.Layout.{answerPlace, waitingPlace, heldImage, heldStart}
-use Rattle.drive.specs.Calls.{askAnswer, askDrive}
+use Rattle.drive.specs.Layout.{heldImage, heldStart}
+use Rattle.drive.specs.Calls.{askAnswer, putAnswer, askDrive}
 use Rattle.drive.specs.Parts.{Askable}
 use Rattle.drive.proofs.Accept.{askable}
 use borrow.Author.Needs.{needs}
@@ -21,6 +19,7 @@ use Rattle.drive_ask.proofs.ask.Lts as lts
 use Rattle.drive_ask.proofs.ask_number.Reads as ask-number-reads
 use Rattle.drive_ask.proofs.held_solve.Reads as held-solve-reads
 use Rattle.drive_ask.proofs.keep.Reads as keep-reads
+use Rattle.drive_shares.proofs.charge.Reads as charge-reads
 
 module _ (c : tie.Then1) where
   abbrev start : tie.Start
@@ -35,11 +34,16 @@ ask-number-requires c κs = search needs
 held-solve-requires : tie.Need-held-solve-requires
 held-solve-requires c κs = passes (c .before .before)
 
+charge-requires : tie.Need-charge-requires
+charge-requires c κs =
+    let k = passes (c .before .before .before .before .before .before) in
+    (record { size = k .placed .size; whole = k .solves .accepted .whole }, k .placed .inside)
+
 keep-requires : tie.Need-keep-requires
 keep-requires c κs =
-    let t = c .before .before .before .before .before .before .before in
-    let k = passes t in
-    (k .inside, k .size, omega (arith, k .inside, k .room-is, k .solves .accepted .whole .sizes .n-high))
+    let k = passes (c .before .before .before .before .before .before .before .before .before .before .before) in
+    let h = c .before .before .before .before .charge in
+    (k .placed .inside, h .kept .0 ∙ k .placed .size, omega (arith, k .placed .inside, k .room-is, k .solves .accepted .whole .sizes .n-high))
 
 same-length : tie.Need-same-length
 same-length c = search needs
@@ -50,17 +54,19 @@ same-length-2 c = search needs
 returns : tie.Need-returns
 unfolding askDrive askAnswer
 returns c =
-    let t = c .before .before .before .before .before .before .before .before .before .before in
+    let t = c .before .before .before .before .before .before .before .before .before .before .before .before .before .before in
     let a = start t .args in
+    let d = a .drive .now in
     let n = t .before .ask-number in
     let e = eq-eqb (n .result) 0 (t .if1 .taken) in
-    let w = c .before .before .before .before .before .before .before .held-solve .ensures in (
+    let w = c .before .before .before .before .before .before .before .before .before .before .before .held-solve .ensures in
+    let paid = c .before .before .before .before .before .before .before .charge .ensures in (
       n .ensures,
       (
         rw e w,
         (
-          rw e (c .before .before .keep .ensures ∙ ap (λ (x : List ℕ). putAt (putAt (a .drive .now) (answerPlace (a .head)) x) (waitingPlace (a .head)) (bytesOf 1)) w),
-          λ _. subst (Guarantee (heldImage (a .drive .now)) (a .state .now) (a .target .now) (heldStart (a .drive .now) (a .head))) (sym w) (guaranteed (heldImage (a .drive .now)) (a .state .now) (a .target .now) (heldStart (a .drive .now) (a .head)) (passes t .solves) (passes t .dominant)),
+          rw e (c .before .before .keep .ensures ∙ ap₂ (λ (x y : List ℕ). putAnswer x (a .head) y) paid w),
+          λ _. subst (Guarantee (heldImage d) (a .state .now) (a .target .now) (heldStart d (a .head))) (sym w) (guaranteed (heldImage d) (a .state .now) (a .target .now) (heldStart d (a .head)) (passes t .solves) (passes t .dominant)),
         ),
       ),
     )
@@ -80,6 +86,7 @@ ask-spec =
     (tie.spec
     ask-number-requires
     held-solve-requires
+    charge-requires
     keep-requires
     same-length
     same-length-2

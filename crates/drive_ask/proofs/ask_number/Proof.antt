@@ -1,30 +1,22 @@
 -- `drive_ask::ask_number` meets its contract. Assumes nothing.
-use native.Mathlib.Omega.{arith}
-use mathlib.Core.Path.{sym, ap₂, _∙_}
-use mathlib.Core.List.{List}
-use Prim.Native.Nat.{ℕ, _<_}
+use mathlib.Core.Path.{sym, _∙_}
 use Rattle.image.proofs.Ordering.{refused, onward}
-use Rattle.interface.specs.Calls.{solveNumber}
-use Rattle.device.specs.Device.{headCount}
-use Rattle.drive.specs.Parts.{Found}
+use Rattle.drive.specs.Parts.{Placed, Found}
 use Rattle.drive.proofs.Accept.{found, ask-by-parts}
-use Rattle.drive.proofs.Parts.{image-part, start-part}
 use borrow.Author.Needs.{needs}
 use Rattle.drive_ask.proofs.ask_number.Statement.{statement}
 use Rattle.drive_ask.proofs.ask_number.Tie as tie
 use Rattle.drive_ask.proofs.ask_number.Reads as reads
 use Rattle.drive_ask.proofs.ask_number.Lts as lts
-use Rattle.calls.proofs.solve_number.Reads as solve-number-reads
-use Rattle.drive.proofs.start_place.Reads as start-place-reads
+use Rattle.drive_ask.proofs.held_number.Reads as held-number-reads
 use Rattle.drive_parts.proofs.parts_number.Reads as parts-number-reads
-use Rattle.drive_parts.proofs.image_end.Reads as image-end-reads
-use Rattle.drive_parts.proofs.start_end.Reads as start-end-reads
+use Rattle.drive_shares.proofs.affords.Reads as affords-reads
 
 module _ (c : tie.Else1) where
   abbrev start : tie.Start
   start = c .before .before .before .before .before
 
-  holds : (start .args .k < headCount) × Found (start .args .drive .now)
+  holds : Placed (start .args .drive .now) (start .args .k) × Found (start .args .drive .now)
   holds = found (start .args .drive .now) (start .args .k) (sym (c .before .parts-number .ensures) ∙ c .if1 .left)
 
 parts-number-requires : tie.Need-parts-number-requires
@@ -35,47 +27,38 @@ returns c =
     let a = c .before .before .before .before .before .args in
     refused _ _ _ (c .before .parts-number .ensures) (c .if1 .taken) ∙ sym (ask-by-parts (a .drive .now) (a .k) (a .state .now) (a .target .now) (a .room))
 
-image-end-requires : tie.Need-image-end-requires
-image-end-requires c κs = holds c .1 .size
-
-start-place-requires : tie.Need-start-place-requires
-start-place-requires c κs = holds (c .before) .0
-
-start-end-requires : tie.Need-start-end-requires
-start-end-requires c κs = let h = holds (c .before .before) in (h .1, h .0)
-
-sub-solve-number : tie.Need-sub-solve-number
-sub-solve-number c = search needs
-
-part-solve-number-start : tie.Need-part-solve-number-start
-part-solve-number-start c = search needs
-
-part-solve-number-end : tie.Need-part-solve-number-end
-part-solve-number-end c = omega (arith, holds (c .before .before .before) .1 .size)
-
-sub-solve-number-2 : tie.Need-sub-solve-number-2
-sub-solve-number-2 c = search needs
-
-part-solve-number-start-2 : tie.Need-part-solve-number-start-2
-part-solve-number-start-2 c = search needs
-
-part-solve-number-end-2 : tie.Need-part-solve-number-end-2
-part-solve-number-end-2 c = let h = holds (c .before .before .before .before) in omega (arith, h .0, h .1 .size, h .1 .whole .sizes .n-high)
-
-solve-number-requires : tie.Need-solve-number-requires
-solve-number-requires c κs = search needs
+held-number-requires : tie.Need-held-number-requires
+held-number-requires c κs = let h = holds c in (h .1, h .0 .inside)
 
 returns-2 : tie.Need-returns-2
 returns-2 c =
-    let e = c .before .before .before .before .before .before in
+    let n = c .before in
+    let e = n .before in
     let a = start e .args in
-    let d = a .drive .now in
-    let r = c .before .before .before .before .before .image-end in
-    let p = c .before .before .before .before .start-place in
-    let l = c .before .before .before .start-end in
-    onward _ _ _ _ (e .before .parts-number .ensures) (e .if1 .left)
-    (c .solve-number .ensures ∙ ap₂ (λ (i x : List ℕ). solveNumber i (a .state .now) (a .target .now) x (a .room)) (image-part d (r .result) (r .ensures)) (start-part d (a .k) (p .result) (l .result) (p .ensures) (l .ensures)))
-    ∙ sym (ask-by-parts d (a .k) (a .state .now) (a .target .now) (a .room))
+    onward _ _ _ _ (e .before .parts-number .ensures) (e .if1 .left) (refused _ _ _ (n .held-number .ensures) (c .if2 .taken)) ∙ sym (ask-by-parts (a .drive .now) (a .k) (a .state .now) (a .target .now) (a .room))
+
+affords-requires : tie.Need-affords-requires
+affords-requires c κs = let h = holds (c .before .before) in (h .1, h .0 .inside)
+
+returns-3 : tie.Need-returns-3
+returns-3 c =
+    let f = c .before in
+    let m = f .before in
+    let n = m .before in
+    let e = n .before in
+    let a = start e .args in
+    onward _ _ _ _ (e .before .parts-number .ensures) (e .if1 .left) (onward _ _ _ _ (n .held-number .ensures) (m .if2 .left) (rw (sym (f .affords .ensures) ∙ c .if3 .taken)))
+    ∙ sym (ask-by-parts (a .drive .now) (a .k) (a .state .now) (a .target .now) (a .room))
+
+returns-4 : tie.Need-returns-4
+returns-4 c =
+    let f = c .before in
+    let m = f .before in
+    let n = m .before in
+    let e = n .before in
+    let a = start e .args in
+    onward _ _ _ _ (e .before .parts-number .ensures) (e .if1 .left) (onward _ _ _ _ (n .held-number .ensures) (m .if2 .left) (rw (sym (f .affords .ensures) ∙ c .if3 .left)))
+    ∙ sym (ask-by-parts (a .drive .now) (a .k) (a .state .now) (a .target .now) (a .room))
 
 pub ask-number-spec : {M : Type 1} → statement M
 ask-number-spec =
@@ -83,14 +66,8 @@ ask-number-spec =
     (tie.spec
     parts-number-requires
     returns
-    image-end-requires
-    start-place-requires
-    start-end-requires
-    sub-solve-number
-    part-solve-number-start
-    part-solve-number-end
-    sub-solve-number-2
-    part-solve-number-start-2
-    part-solve-number-end-2
-    solve-number-requires
-    returns-2)
+    held-number-requires
+    returns-2
+    affords-requires
+    returns-3
+    returns-4)

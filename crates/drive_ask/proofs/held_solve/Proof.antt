@@ -29,10 +29,10 @@ image-end-requires : tie.Need-image-end-requires
 image-end-requires c κs = search needs
 
 start-place-requires : tie.Need-start-place-requires
-start-place-requires c κs = c .before .before .before .before .before .pre .inside
+start-place-requires c κs = c .before .before .before .before .before .pre .placed .inside
 
 start-end-requires : tie.Need-start-end-requires
-start-end-requires c κs = let s = c .before .before .before .before .before .before in (holds s, s .pre .inside)
+start-end-requires c κs = let s = c .before .before .before .before .before .before in (holds s, s .pre .placed .inside)
 
 sub-solve : tie.Need-sub-solve
 sub-solve c = search needs
@@ -52,7 +52,7 @@ part-solve-start-2 c = search needs
 part-solve-end-2 : tie.Need-part-solve-end-2
 part-solve-end-2 c =
     let s = c .before .before .before .before .before .before .before .before in
-    omega (arith, s .pre .inside, s .pre .size, holds s .whole .sizes .n-high)
+    omega (arith, s .pre .placed .inside, s .pre .placed .size, holds s .whole .sizes .n-high)
 
 module _ (c : tie.After-start-end) where
   abbrev s : tie.Start

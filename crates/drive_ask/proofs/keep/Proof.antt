@@ -7,6 +7,7 @@ use lib.ListN.{length, take, drop}
 use Rattle.word.specs.Buffer.{putAt}
 use Rattle.word.specs.Word.{bytesOf}
 use Rattle.word.proofs.Beside.{put-lent}
+use Rattle.drive.specs.Calls.{putAnswer}
 use borrow.Author.Needs.{needs}
 use Rattle.drive_ask.proofs.keep.Statement.{statement}
 use Rattle.drive_ask.proofs.keep.Tie as tie
@@ -45,6 +46,7 @@ same-length : tie.Need-same-length
 same-length c = search needs
 
 returns : tie.Need-returns
+unfolding putAnswer
 returns c =
     let q = c .before .before .before in
     let p = q .before .before .before .before in

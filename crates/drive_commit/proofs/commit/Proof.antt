@@ -21,14 +21,14 @@ issue-requires c κs =
     let a = c .before .before .before .before .before .before .before .args in
     let z : commitNumber (a .drive .now) (a .head) (length (a .commands .now)) ≡ 0 = sym (c .before .before .before .commit-number .ensures) ∙ c .before .before .if1 .taken in
     let k = committable (a .drive .now) (a .head) _ z in
-    (k .parts, k .inside, k .room-is)
+    (k .parts, k .placed .inside, k .room-is)
 
 move-on-requires : tie.Need-move-on-requires
 move-on-requires c κs =
     let a = c .before .before .before .before .before .before .before .before .before .before .before .args in
     let z : commitNumber (a .drive .now) (a .head) (length (a .commands .now)) ≡ 0 = sym (c .before .before .before .before .before .before .before .commit-number .ensures) ∙ c .before .before .before .before .before .before .if1 .taken in
     let k = committable (a .drive .now) (a .head) _ z in
-    (k .parts, k .inside)
+    (k .parts, k .placed .inside)
 
 same-length : tie.Need-same-length
 same-length c = search needs

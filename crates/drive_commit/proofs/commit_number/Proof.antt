@@ -3,7 +3,7 @@ use native.Mathlib.Omega.{arith}
 use mathlib.Core.Path.{_≡_, sym, ap, _∙_}
 use mathlib.Core.Bool.{true}
 use mathlib.Core.List.{List}
-use Prim.Native.Nat.{ℕ, _*_, _<_}
+use Prim.Native.Nat.{ℕ, _*_}
 use lib.Dec.{eqb}
 use borrow.Author.Tests.{eq-eqb, ne-eqb}
 use Rattle.word.specs.Word.{natAt}
@@ -11,10 +11,9 @@ use Rattle.image.specs.declared.Sizes.{Sizes}
 use Rattle.image.specs.Layout.{sizesOf}
 use Rattle.image.proofs.Ordering.{refused, onward}
 use Rattle.interface.proofs.Accept.{whole-of}
-use Rattle.device.specs.Device.{headCount}
 use Rattle.drive.specs.Layout.{heldImage, heldWaiting}
 use Rattle.drive.specs.Calls.{commitNumber}
-use Rattle.drive.specs.Parts.{Found}
+use Rattle.drive.specs.Parts.{Placed, Found}
 use Rattle.drive.proofs.Accept.{found}
 use borrow.Author.Needs.{needs}
 use Rattle.drive_commit.proofs.commit_number.Statement.{statement}
@@ -30,7 +29,7 @@ module _ (c : tie.Else1) where
   abbrev start : tie.Start
   start = c .before .before .before
 
-  holds : (start .args .k < headCount) × Found (start .args .drive .now)
+  holds : Placed (start .args .drive .now) (start .args .k) × Found (start .args .drive .now)
   holds = found (start .args .drive .now) (start .args .k) (sym (c .before .parts-number .ensures) ∙ c .if1 .left)
 
 nu-is : (c : tie.After-held-sizes) → c .held-sizes .result .nu ≡ sizesOf (heldImage (start (c .before) .args .drive .now)) .nu
@@ -58,10 +57,10 @@ returns-2 c =
     onward _ _ _ _ (e .before .parts-number .ensures) (e .if1 .left) (rw (ne-eqb (a .room) (4 * sizesOf (heldImage (a .drive .now)) .nu) (λ q. c .if2 .taken (q ∙ ap (λ (k : ℕ). 4 * k) (sym (nu-is h))))))
 
 waiting-place-requires : tie.Need-waiting-place-requires
-waiting-place-requires c κs = holds (c .before .before .before) .0
+waiting-place-requires c κs = holds (c .before .before .before) .0 .inside
 
 nat-at-requires : tie.Need-nat-at-requires
-nat-at-requires c κs = let h = holds (c .before .before .before .before) in omega (arith, c .waiting-place .ensures, h .0, h .1 .size)
+nat-at-requires c κs = let h = holds (c .before .before .before .before) in omega (arith, c .waiting-place .ensures, h .0 .inside, h .1 .size)
 
 -- the word that was read is that of head k
 module _ (c : tie.After-nat-at) where

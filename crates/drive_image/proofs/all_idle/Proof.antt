@@ -9,21 +9,21 @@ use borrow.Author.Tests.{eq-eqb, ne-eqb}
 use Rattle.word.specs.Word.{natAt}
 use Rattle.gradient.specs.Index.{allTo}
 use Rattle.gradient.proofs.Tests.{all-fails}
-use Rattle.device.specs.Device.{headCount}
-use Rattle.drive.specs.Layout.{heldWaiting}
+use Rattle.drive.specs.Layout.{heldWaiting, heldHeads}
 use Rattle.drive.specs.Calls.{idleAt}
 use Rattle.drive_image.proofs.all_idle.Statement.{statement}
 use Rattle.drive_image.proofs.all_idle.Tie as tie
 use Rattle.drive_image.proofs.all_idle.Reads as reads
 use Rattle.drive_image.proofs.all_idle.Lts as lts
+use Rattle.drive_image.proofs.held_heads.Reads as held-heads-reads
 use Rattle.drive.proofs.waiting_place.Reads as waiting-place-reads
 use Rattle.word.proofs.nat_at.Reads as nat-at-reads
 
 abbrev Inv-loop : tie.InvT-loop
-Inv-loop drive k₀ k = (k ≤ headCount) × (allTo (idleAt drive) k ≡ true)
+Inv-loop drive heads k₀ k = (k ≤ heads) × (allTo (idleAt drive) k ≡ true)
 
 abbrev μ-loop : tie.MeasureT-loop
-μ-loop drive k₀ k = headCount - k
+μ-loop drive heads k₀ k = heads - k
 
 -- the word that was read is that of head k
 module _ (c : tie.After-nat-at Inv-loop μ-loop) where
@@ -31,25 +31,29 @@ module _ (c : tie.After-nat-at Inv-loop μ-loop) where
   k = c .before .before .before .loop .k
 
   abbrev d : List ℕ
-  d = c .before .before .before .before .before .args .drive .now
+  d = c .before .before .before .before .before .before .args .drive .now
 
   waiting-is : c .nat-at .result ≡ heldWaiting d k
   unfolding heldWaiting
   waiting-is = c .nat-at .ensures .0 ∙ ap (natAt d) (c .before .waiting-place .ensures)
 
+held-heads-requires : tie.Need-held-heads-requires Inv-loop μ-loop
+held-heads-requires c κs = c .before .pre
+
 loop-holds : tie.Need-loop-holds Inv-loop μ-loop
 loop-holds c = (omega arith, refl)
 
 waiting-place-requires : tie.Need-waiting-place-requires Inv-loop μ-loop
-waiting-place-requires c κs = omega arith
+waiting-place-requires c κs = omega (arith, c .before .before .held-heads .ensures)
 
 nat-at-requires : tie.Need-nat-at-requires Inv-loop μ-loop
-nat-at-requires c κs = omega (arith, c .waiting-place .ensures, c .before .before .before .before .pre)
+nat-at-requires c κs = let h = c .before .before .before in omega (arith, c .waiting-place .ensures, h .held-heads .ensures, h .before .before .pre)
 
 returns : tie.Need-returns Inv-loop μ-loop
 returns c =
     let n = c .before in
-    sym (all-fails (idleAt (d n)) headCount (k n) (omega arith) (ne-eqb (heldWaiting (d n) (k n)) 0 (λ q. c .if1 .taken (waiting-is n ∙ q))))
+    let h = n .before .before .before .before in
+    sym (all-fails (idleAt (d n)) (heldHeads (d n)) (k n) (omega (arith, h .held-heads .ensures)) (ne-eqb (heldWaiting (d n) (k n)) 0 (λ q. c .if1 .taken (waiting-is n ∙ q))))
 
 add-k : tie.Need-add-k Inv-loop μ-loop
 add-k c = omega arith
@@ -65,8 +69,10 @@ loop-again c =
 returns-2 : tie.Need-returns-2 Inv-loop μ-loop
 returns-2 c =
     let l = c .before in
-    let e : l .loop .k ≡ headCount = omega arith in
-    sym (subst (λ (k : ℕ). allTo (idleAt (l .before .before .args .drive .now)) k ≡ true) e (l .loop .inv .1))
+    let h = l .before in
+    let d = h .before .before .args .drive .now in
+    let e : l .loop .k ≡ heldHeads d = omega (arith, h .held-heads .ensures) in
+    sym (subst (λ (k : ℕ). allTo (idleAt d) k ≡ true) e (l .loop .inv .1))
 
 pub all-idle-spec : {M : Type 1} → statement M
 all-idle-spec =
@@ -74,6 +80,7 @@ all-idle-spec =
     (tie.spec
     Inv-loop
     μ-loop
+    held-heads-requires
     loop-holds
     waiting-place-requires
     nat-at-requires
