@@ -20,10 +20,6 @@ use Rattle.image.specs.Checks.{headNumber, bodyNumber}
 use Rattle.interface.specs.Tables.{symmetryTest, othersAt, marginAt, totalAt, leastMargin, marginOf, largestTotal, momentumRange, momentumRatio, rangeTest, rowTest, tablesNumber, imageNumber}
 use Rattle.interface.specs.Calls.{valuesOf, inputsOf, startOf, coldAnswer, valuesWithin, callNumber, solvableNumber, solveNumber, commandsAfter, boundsAfter, distanceAfter, solveAnswer}
 use Rattle.interface.specs.Demand.{withSweeps}
-use Rattle.drive.specs.Layout.{heldImage, heldStart, heldWaiting, heldAnswer}
-use Rattle.drive.specs.Move.{movedAt, nextStart, firstCommands}
-use Rattle.drive.specs.Calls.{makeNumber, blankDrive, makeDrive, newNumber, placeNumber, askNumber, askAnswer, askDrive, partsNumber, commitNumber, commitAnswer, commitDrive}
-use Rattle.drive.specs.Run.{numberOn, answerOn, driveOn, writtenBy, afterCall}
 use Rattle.line.specs.Line.{lineAt}
 use Rattle.frame.specs.Frame.{dueAt, headOf, total, wordOf}
 use Rattle.lines.specs.Lines.{lineFault, lineValue, lineWord}
@@ -35,8 +31,8 @@ use Rattle.word_file.specs.WordFile.{isWordFile, fileWords}
 use Rattle.text.specs.Text.{distanceDigits, lineOf, lines, refusal}
 use Rattle.label_files.specs.Files.{targetForm, formNumber}
 use Rattle.label_text.specs.Label.{filesNumber, imageText, labelText}
-use Rattle.cases.specs.Cases.{solvesFrom, runsFrom, holds, table, S, two, following, varying, limited, skewed, halved, full, gained, uneven, wide, widening, paired}
+use Rattle.cases.specs.Cases.{solvesFrom, holds, table, S, two, following, varying, limited, skewed, halved, full, gained, uneven, wide}
 
 pub starred : every holds table ≡ true
-unfolding floor ceil clamp numberBE digitsBE natBE bytesBE wordsAt wordsOut scalable rounded accepted ofBits F coldStart linear unclamped nextZ nextY step iterate magnitude width rangeP rangeY rangeA rangeB slack weight nextE nextQ errorStep errorAfter exactLinear gradientStep projectedStep difference residual optimumBound every every2 startWithin sound sizesOf lowerAt upperAt momentumAt limitAt entryOf commandAt problemAt problemOf headNumber bodyNumber symmetryTest othersAt marginAt totalAt leastMargin marginOf largestTotal momentumRange momentumRatio rangeTest rowTest tablesNumber imageNumber valuesOf inputsOf startOf coldAnswer valuesWithin callNumber solvableNumber solveNumber commandsAfter boundsAfter distanceAfter solveAnswer withSweeps putAt heldImage heldStart heldWaiting heldAnswer movedAt nextStart firstCommands makeNumber blankDrive makeDrive newNumber placeNumber askNumber askAnswer askDrive partsNumber commitNumber commitAnswer commitDrive numberOn answerOn driveOn writtenBy afterCall eq size round toBits joined isHex digitOf hexes hexAt digitByte hexDigits lineAt dueAt headOf total wordOf lineFault lineValue lineWord sheetImage sheetNumber sheetWords designNumber intakeNumber isKept effectOf lineText designCount pageLine pageNumber sheetPage isWordFile fileWords distanceDigits lineOf lines refusal targetForm formNumber filesNumber imageText labelText solvesFrom runsFrom holds table S two following varying limited skewed halved full gained uneven wide widening paired
+unfolding floor ceil clamp numberBE digitsBE natBE bytesBE wordsAt wordsOut scalable rounded accepted ofBits F coldStart linear unclamped nextZ nextY step iterate magnitude width rangeP rangeY rangeA rangeB slack weight nextE nextQ errorStep errorAfter exactLinear gradientStep projectedStep difference residual optimumBound every every2 startWithin sound sizesOf lowerAt upperAt momentumAt limitAt entryOf commandAt problemAt problemOf headNumber bodyNumber symmetryTest othersAt marginAt totalAt leastMargin marginOf largestTotal momentumRange momentumRatio rangeTest rowTest tablesNumber imageNumber valuesOf inputsOf startOf coldAnswer valuesWithin callNumber solvableNumber solveNumber commandsAfter boundsAfter distanceAfter solveAnswer withSweeps putAt eq size round toBits joined isHex digitOf hexes hexAt digitByte hexDigits lineAt dueAt headOf total wordOf lineFault lineValue lineWord sheetImage sheetNumber sheetWords designNumber intakeNumber isKept effectOf lineText designCount pageLine pageNumber sheetPage isWordFile fileWords distanceDigits lineOf lines refusal targetForm formNumber filesNumber imageText labelText solvesFrom holds table S two following varying limited skewed halved full gained uneven wide
 starred = refl

@@ -7,10 +7,9 @@ use Prim.Native.String.{String}
 use lib.Dec.{eqb}
 use lib.IntN.{ℤ, pos, negℤ, _*ℤ_}
 use lib.Ieee.{binary64, ofBits}
-use lib.ListN.{length, take, drop, replicate}
+use lib.ListN.{length, take, drop}
 use Rattle.word.specs.Ascii.{ascii}
-use Rattle.word.specs.Buffer.{putAt}
-use Rattle.word.specs.Word.{wordsOut, bytesOf, patternBytes}
+use Rattle.word.specs.Word.{wordsOut, patternBytes}
 use Rattle.double.specs.Double.{convertedNumber}
 use Rattle.gradient.specs.Index.{tab}
 use Rattle.gradient.specs.Vector.{zipWith}
@@ -22,11 +21,6 @@ use Rattle.image.specs.Layout.{problemOf}
 use Rattle.interface.specs.Tables.{eqZ, imageNumber}
 use Rattle.interface.specs.Calls.{coldAnswer, solveNumber, solveAnswer}
 use Rattle.interface.specs.Demand.{withSweeps}
-use Rattle.device.specs.Call.{Call, make, newImage, ask, commit}
-use Rattle.device.specs.Run.{Event}
-use Rattle.drive.specs.Layout.{waitingPlace, driveLength, heldStart}
-use Rattle.drive.specs.Calls.{makeDrive}
-use Rattle.drive.specs.Run.{numberOn, writtenBy, afterCall}
 use Rattle.frame.specs.Frame.{convertedWord, wordOf}
 use Rattle.sheet.specs.Sample.{changed, formerLines, lines, mixedLines, stepLines, targetLines, text}
 use Rattle.intake.specs.Intake.{intakeImage, intakeNumber}
@@ -55,8 +49,6 @@ pub data Case : Type 0 where
   prints : List ℕ → ℕ → String → Case
   -- the call for a sheet's page, with a buffer of so many bytes, has a number
   pages : List ℕ → ℕ → ℕ → Case
-  -- calls on the bytes of a drive, the first one first, have their numbers and write their bytes, and leave the starts of head 0 and head 1
-  runs : List ℕ → List Event → List ℤ → List ℤ → Case
 
 -- "all have b 4, W 8": S's sizes
 abbrev sizes : Sizes
@@ -97,32 +89,6 @@ solvesFrom s image x t (answer ∷ later) =
     && every2 eqb (answerOf (withSweeps s image) x t) answer
     && solvesFrom (suc s) image x t later
 
--- ---- calls on a drive
--- a buffer of `size` bytes that is no drive yet
-abbrev buffer : ℕ → List ℕ
-buffer size = replicate size 255
-
--- a make, or a new image, is accepted
-abbrev takes : Call → Event
-takes c = record { call = c; number = 0; answer = [] }
-
--- an ask of a head with a state of one value answers commands, bounds and D
-abbrev asks : ℕ → ℤ → List ℤ → List ℕ → ℕ → Event
-asks k x zs es d = record { call = ask k (wordsOut (x ∷ [])) [] (8 * length zs + 8); number = 0; answer = wordsOut zs ++ wordsOut (map pos es) ++ patternBytes d }
-
--- a commit of a head issues commands
-abbrev commits : ℕ → List ℤ → Event
-commits k zs = record { call = commit k (4 * length zs); number = 0; answer = wordsOut zs }
-
-abbrev refuses : Call → ℕ → Event
-refuses c number = record { call = c; number = number; answer = [] }
-
--- the drive after the calls, where each has its number and its bytes
-unfoldable pub runsFrom : List ℕ → List Event → List ℤ → List ℤ → Bool
-runsFrom d [] start other = every2 eqb (heldStart d 0) (wordsOut start) && every2 eqb (heldStart d 1) (wordsOut other)
-runsFrom d (e ∷ later) start other =
-    eqb (numberOn d (e .call)) (e .number) && every2 eqb (writtenBy d (e .call)) (e .answer) && runsFrom (afterCall d (e .call)) later start other
-
 unfoldable pub holds : Case → Bool
 holds (solves image x t zss ess ds) =
     eqb (length zss) (length ess) && eqb (length zss) (length ds) && solvesFrom 1 image x t (answersOf zss ess ds)
@@ -138,7 +104,6 @@ holds (writes sheet image) = eqb (intakeNumber sheet (length image)) 0 && every2
 holds (labels drive state target label) = every2 eqb (labelText drive state target) label
 holds (prints sheet i line) = every2 eqb (take 44 (drop (44 * i) (sheetPage sheet))) (textLine line)
 holds (pages sheet room n) = eqb (pageNumber sheet room) n
-holds (runs d events start other) = runsFrom d events start other
 
 -- ---- the images
 -- S with a step factor, limits −l and l, a state limit
@@ -210,18 +175,6 @@ wide =
     wordsOut
     (map pos (1 ∷ 1 ∷ 12 ∷ 4 ∷ 32 ∷ 3 ∷ 4 ∷ 0 ∷ 8 ∷ [])
     ++ (largest 12 ++ ((minus 20 ∷ pos 20 ∷ pos 0 ∷ []) ++ (largest 12 ++ (largest 4 ++ largest 4)))))
-
--- one motor, two steps, H diagonal, state limit 30: step 0 has S's limits, step 1 twice these
-unfoldable pub widening : List ℕ
-widening =
-    wordsOut (map pos (1 ∷ 2 ∷ 1 ∷ 4 ∷ 8 ∷ 3 ∷ 0 ∷ 0 ∷ 8 ∷ 0 ∷ 0 ∷ 8 ∷ 16 ∷ 16 ∷ []) ++ (minus 20 ∷ minus 40 ∷ map pos (20 ∷ 40 ∷ 0 ∷ 30 ∷ [])))
-
--- two motors, two steps, H diagonal, Φ 1, 1/2, 1/4, 1/8, all limits −40 and 40, state limit 16
-unfoldable pub paired : List ℕ
-paired =
-    wordsOut
-    (map pos (2 ∷ 2 ∷ 1 ∷ 4 ∷ 8 ∷ 3 ∷ 0 ∷ 0 ∷ 8 ∷ 0 ∷ 0 ∷ 0 ∷ 0 ∷ 8 ∷ 0 ∷ 0 ∷ 0 ∷ 0 ∷ 8 ∷ 0 ∷ 0 ∷ 0 ∷ 0 ∷ 8 ∷ 16 ∷ 8 ∷ 4 ∷ 2 ∷ [])
-    ++ (minus 40 ∷ minus 40 ∷ minus 40 ∷ minus 40 ∷ map pos (40 ∷ 40 ∷ 40 ∷ 40 ∷ 0 ∷ 16 ∷ [])))
 
 -- ---- the table
 unfoldable pub table : List Case
@@ -365,102 +318,4 @@ table =
     ∷ rooms (S 0 20 10) (pos 10) 17 15
     -- a D of 2^48 − 2^28 takes sixteen digits
     ∷ labels (text farLines) (textLine "10000000") [] (textLine "F0000000 00000001 0000FFFFF0000000")
-    -- request 9: S as a drive; 18 before the first ask, and 15 before 18; a refused ask, and a refused make, leave the answer waiting; after
-    -- the commit it is used up
-    ∷ runs (buffer driveLength) (takes (make (S 0 20 10)) ∷ refuses (commit 0 4) 18 ∷ refuses (commit 0 8) 15 ∷ []) (pos 0 ∷ []) (pos 0 ∷ [])
-    ∷ runs (buffer driveLength)
-    (takes (make (S 0 20 10))
-    ∷ asks 0 (pos 10) (minus 18 ∷ []) (3 ∷ []) 2
-    ∷ refuses (ask 0 (wordsOut (pos 11 ∷ [])) [] 16) 13
-    ∷ refuses (ask 0 (wordsOut (pos 10 ∷ [])) (wordsOut (pos 0 ∷ [])) 16) 16
-    ∷ refuses (ask 0 (wordsOut (pos 10 ∷ [])) [] 8) 15
-    ∷ refuses (make (S 0 20 118)) 12
-    ∷ refuses (commit 0 8) 15
-    ∷ commits 0 (minus 18 ∷ [])
-    ∷ refuses (commit 0 4) 18
-    ∷ [])
-    (minus 18 ∷ []) (pos 0 ∷ [])
-    -- N 1: the next start is the answer, from which an ask goes on, twice the same; the second of two asks is committed
-    ∷ runs (buffer driveLength)
-    (takes (make (S 0 20 10))
-    ∷ asks 1 (pos 10) (minus 18 ∷ []) (3 ∷ []) 2
-    ∷ commits 1 (minus 18 ∷ [])
-    ∷ asks 1 (pos 10) (minus 20 ∷ []) (3 ∷ []) 0
-    ∷ asks 1 (pos 10) (minus 20 ∷ []) (3 ∷ []) 0
-    ∷ asks 1 (minus 3) (pos 3 ∷ []) (3 ∷ []) 3
-    ∷ commits 1 (pos 3 ∷ [])
-    ∷ [])
-    (pos 0 ∷ []) (pos 3 ∷ [])
-    -- step 1's −35 moves to step 0 and is held to −20, its new step's low; step 1 is repeated, and the next ask goes on from there
-    ∷ runs (buffer driveLength) (takes (make widening) ∷ asks 0 (pos 20) (minus 20 ∷ minus 35 ∷ []) (3 ∷ 3 ∷ []) 5 ∷ commits 0 (minus 20 ∷ []) ∷ [])
-    (minus 20 ∷ minus 35 ∷ []) (pos 0 ∷ pos 0 ∷ [])
-    ∷ runs (buffer driveLength)
-    (takes (make widening)
-    ∷ asks 0 (pos 20) (minus 20 ∷ minus 35 ∷ []) (3 ∷ 3 ∷ []) 5
-    ∷ commits 0 (minus 20 ∷ [])
-    ∷ asks 0 (pos 20) (minus 20 ∷ minus 40 ∷ []) (3 ∷ 3 ∷ []) 0
-    ∷ [])
-    (minus 20 ∷ minus 35 ∷ []) (pos 0 ∷ pos 0 ∷ [])
-    -- two motors: both commands of step 0 are issued, and those of step 1 move there; a make in between begins anew, from zeros
-    ∷ runs (buffer driveLength)
-    (takes (make paired) ∷ asks 1 (pos 16) (minus 28 ∷ minus 14 ∷ minus 7 ∷ minus 4 ∷ []) (3 ∷ 3 ∷ 3 ∷ 3 ∷ []) 4 ∷ commits 1 (minus 28 ∷ minus 14 ∷ []) ∷ [])
-    (pos 0 ∷ pos 0 ∷ pos 0 ∷ pos 0 ∷ []) (minus 7 ∷ minus 4 ∷ minus 7 ∷ minus 4 ∷ [])
-    ∷ runs (buffer driveLength) (takes (make widening) ∷ asks 0 (pos 20) (minus 20 ∷ minus 35 ∷ []) (3 ∷ 3 ∷ []) 5 ∷ takes (make paired) ∷ refuses (commit 0 8) 18 ∷ [])
-    (pos 0 ∷ pos 0 ∷ pos 0 ∷ pos 0 ∷ []) (pos 0 ∷ pos 0 ∷ pos 0 ∷ pos 0 ∷ [])
-    -- bytes that no make wrote are tested as the image that they hold
-    ∷ runs (buffer driveLength) (refuses (ask 0 [] [] 0) 3 ∷ refuses (commit 1 4) 3 ∷ []) (tab (λ (i : ℕ). minus 1) 101) (tab (λ (i : ℕ). minus 1) 50)
-    ∷ runs (replicate driveLength 0) (refuses (ask 1 [] [] 0) 6 ∷ refuses (commit 0 4) 6 ∷ []) [] []
-    -- request 10: pen and knife in turns, each with its own answer and its own start; 19 "while either head has a waiting answer", and an image
-    -- that is itself refused has its own number; then each goes on from where it is
-    ∷ runs (buffer driveLength)
-    (takes (make (S 0 20 10))
-    ∷ asks 0 (pos 10) (minus 18 ∷ []) (3 ∷ []) 2
-    ∷ refuses (commit 1 4) 18
-    ∷ refuses (newImage paired) 19
-    ∷ asks 1 (minus 3) (pos 5 ∷ []) (3 ∷ []) 1
-    ∷ commits 0 (minus 18 ∷ [])
-    ∷ refuses (commit 0 4) 18
-    ∷ refuses (newImage paired) 19
-    ∷ refuses (newImage (S 0 20 118)) 12
-    ∷ commits 1 (pos 5 ∷ [])
-    ∷ asks 0 (pos 10) (minus 20 ∷ []) (3 ∷ []) 0
-    ∷ asks 1 (minus 3) (pos 5 ∷ []) (3 ∷ []) 1
-    ∷ [])
-    (minus 18 ∷ []) (pos 5 ∷ [])
-    -- a new image of other sizes, larger and then smaller: both starts are zeros again, and are counted from it
-    ∷ runs (buffer driveLength)
-    (takes (make (S 0 20 10))
-    ∷ asks 0 (pos 10) (minus 18 ∷ []) (3 ∷ []) 2
-    ∷ commits 0 (minus 18 ∷ [])
-    ∷ takes (newImage widening)
-    ∷ refuses (commit 0 4) 18
-    ∷ asks 1 (pos 20) (minus 20 ∷ minus 35 ∷ []) (3 ∷ 3 ∷ []) 5
-    ∷ commits 1 (minus 20 ∷ [])
-    ∷ [])
-    (pos 0 ∷ pos 0 ∷ []) (minus 20 ∷ minus 35 ∷ [])
-    ∷ runs (buffer driveLength)
-    (takes (make widening)
-    ∷ asks 1 (pos 20) (minus 20 ∷ minus 35 ∷ []) (3 ∷ 3 ∷ []) 5
-    ∷ commits 1 (minus 20 ∷ [])
-    ∷ takes (newImage (S 0 20 10))
-    ∷ asks 1 (pos 10) (minus 18 ∷ []) (3 ∷ []) 2
-    ∷ [])
-    (pos 0 ∷ []) (pos 0 ∷ [])
-    -- a drive of another length is 15, behind the image's number; "a head other than 0 or 1 is 3, before all else"
-    ∷ runs (take 2687 (makeDrive (S 0 20 10)))
-    (refuses (make (S 0 20 10)) 15
-    ∷ refuses (make []) 6
-    ∷ refuses (newImage (S 0 20 10)) 15
-    ∷ refuses (newImage []) 6
-    ∷ refuses (ask 1 [] [] 0) 15
-    ∷ refuses (ask 2 [] [] 0) 3
-    ∷ refuses (commit 1 4) 15
-    ∷ refuses (commit 2 4) 3
-    ∷ refuses (commit 4294967295 4) 3
-    ∷ [])
-    (pos 0 ∷ []) (pos 0 ∷ [])
-    ∷ runs (makeDrive (S 0 20 10)) (refuses (ask 2 (wordsOut (pos 10 ∷ [])) [] 16) 3 ∷ refuses (ask 256 (wordsOut (pos 10 ∷ [])) [] 16) 3 ∷ []) (pos 0 ∷ []) (pos 0 ∷ [])
-    -- any other word than 0 says that an answer waits: that of the bytes
-    ∷ runs (putAt (makeDrive (S 0 20 10)) (waitingPlace 1) (bytesOf 256)) (refuses (newImage (S 0 20 10)) 19 ∷ commits 1 (pos 0 ∷ []) ∷ takes (newImage (S 0 20 10)) ∷ [])
-    (pos 0 ∷ []) (pos 0 ∷ [])
     ∷ []

@@ -1,0 +1,2 @@
+-- The checks.
+pub mod Computed

@@ -1,0 +1,2 @@
+-- The runs, and what is computed of them.
+pub mod Cases
