@@ -6,13 +6,15 @@
 
 #include "problems.h"
 
-enum { SOLVE, ASK, COMMIT, MAKE, NEW_IMAGE, CALLS };
-static const char *const names[CALLS] = {"solve", "ask", "commit", "make", "new image"};
+enum { SOLVE, ASK, COMMIT, MAKE, NEW_IMAGE, PERIOD, DONE, CALLS };
+static const char *const names[CALLS] = {"solve", "ask", "commit", "make", "new image", "period", "done"};
 
-/* Asks of one drive repeat, since they leave its start as it is. A commit uses up the waiting answer, so each commit of a
- * round has a drive of its own; they are few enough to stay in the fastest cache. Makes and new images have one of these:
- * after a make no answer waits. */
-enum { DRIVES = 8, HEAD = 0 };
+/* A drive has four heads, of which one is used. Asks of one drive repeat, since they leave its start as it is. They
+ * cost sweeps: before each round of asks, and not timed with them, a period of as many as can be begins, and the head's
+ * own share of it, 16383, is enough for the round. A commit uses up the waiting answer, so each commit of a round has a
+ * drive of its own; they are few enough to stay in the fastest cache. The other calls have one of these: after a make
+ * no answer waits. A done takes the same steps where its share is used up. No call of a round may be refused. */
+enum { DRIVES = 8, HEAD = 0, SWEEPS = UINT16_MAX };
 static uint8_t ready[GANTRY_DRIVE_BYTES]; /* an answer waits in it */
 static uint8_t drives[DRIVES][GANTRY_DRIVE_BYTES];
 
@@ -27,9 +29,13 @@ static uint32_t call(const struct problem *p, int kind, uint8_t *drive, uint8_t 
     case COMMIT:
         return gantry_commit(drive, GANTRY_DRIVE_BYTES, HEAD, out, GANTRY_COMMANDS_BYTES(word(p, 0)));
     case MAKE:
-        return gantry_make(p->image, p->image_len, drive, GANTRY_DRIVE_BYTES);
-    default:
+        return gantry_make(p->image, p->image_len, GANTRY_MAX_HEADS, drive, GANTRY_DRIVE_BYTES);
+    case NEW_IMAGE:
         return gantry_new_image(drive, GANTRY_DRIVE_BYTES, p->image, p->image_len);
+    case PERIOD:
+        return gantry_period(drive, GANTRY_DRIVE_BYTES, SWEEPS);
+    default:
+        return gantry_done(drive, GANTRY_DRIVE_BYTES, HEAD);
     }
 }
 
@@ -46,10 +52,10 @@ static size_t written(const struct problem *p, int kind)
 }
 
 /* noipa: valgrind finds the call by its name. */
-__attribute__((noipa)) static void call_once(const struct problem *p, int kind, uint8_t *drive)
+__attribute__((noipa)) static uint32_t call_once(const struct problem *p, int kind, uint8_t *drive)
 {
     uint8_t out[ANSWER];
-    call(p, kind, drive, out);
+    return call(p, kind, drive, out);
 }
 
 static int wrong(const struct problem *p, const char *what, uint32_t number)
@@ -59,14 +65,17 @@ static int wrong(const struct problem *p, const char *what, uint32_t number)
     return 0;
 }
 
-/* Makes the drive and leaves an answer waiting in it. Two asks give the solve's bytes, and a commit the first of them. */
+/* Makes the drive, begins a period, leaves an answer waiting. Two asks give the solve's bytes, a commit the first. */
 static int agree(const struct problem *p)
 {
-    static const int kinds[] = {SOLVE, ASK, ASK, COMMIT, MAKE, NEW_IMAGE};
+    static const int kinds[] = {SOLVE, ASK, ASK, COMMIT, MAKE, NEW_IMAGE, PERIOD, DONE};
     uint8_t solved[ANSWER] = {0}, out[ANSWER] = {0};
     uint32_t number = call(p, MAKE, ready, out);
     if (number != GANTRY_ACCEPTED)
         return wrong(p, names[MAKE], number);
+    number = call(p, PERIOD, ready, out);
+    if (number != GANTRY_ACCEPTED)
+        return wrong(p, names[PERIOD], number);
     for (size_t k = 0; k < sizeof kinds / sizeof *kinds; k++) {
         int kind = kinds[k];
         if (kind == COMMIT)
@@ -78,41 +87,52 @@ static int agree(const struct problem *p)
     return 1;
 }
 
-/* One round: us of a call. */
-static double take(const struct problem *p, int kind)
+/* One round: us of a call; periods and dones are so short that it takes many to tell. A refusal leaves its number. */
+static double take(const struct problem *p, int kind, uint32_t *refused)
 {
-    int calls = kind == COMMIT ? DRIVES : p->calls;
+    int calls = kind == COMMIT ? DRIVES : kind == PERIOD || kind == DONE ? 200 : p->calls;
+    if (kind == ASK)
+        *refused = call(p, PERIOD, ready, NULL);
     if (kind == COMMIT)
         for (int c = 0; c < DRIVES; c++)
             memcpy(drives[c], ready, sizeof ready);
     double begin = now();
-    for (int c = 0; c < calls; c++)
-        call_once(p, kind, drive_of(kind, c));
+    for (int c = 0; c < calls; c++) {
+        uint32_t number = call_once(p, kind, drive_of(kind, c));
+        *refused = number == GANTRY_ACCEPTED ? *refused : number;
+    }
     return 1e6 * (now() - begin) / calls;
 }
 
 /* The best of many rounds in turns, as in bench.c. */
-static void report(const struct problem *p)
+static int report(const struct problem *p)
 {
     double least[CALLS] = {0};
     for (int r = 0; r < 400; r++)
         for (int k = 0; k < CALLS; k++) {
-            double took = take(p, k);
+            uint32_t refused = GANTRY_ACCEPTED;
+            double took = take(p, k, &refused);
+            if (refused != GANTRY_ACCEPTED)
+                return wrong(p, names[k], refused);
             least[k] = r == 0 || took < least[k] ? took : least[k];
         }
     printf("ask beside solve, %s:", p->name);
     for (int k = 0; k < CALLS; k++)
-        printf(" %s %.2f us,", names[k], least[k]);
+        printf(" %s %.*f us,", names[k], least[k] < 0.1 ? 3 : 2, least[k]);
     printf(" same answer\n");
+    return 1;
 }
 
 /* Each line names a call, in the order of valgrind's counts. */
-static void count(const struct problem *p)
+static int count(const struct problem *p)
 {
     for (int k = 0; k < CALLS; k++) {
         printf("%s, from zeros, %s\n", p->name, names[k]);
-        call_once(p, k, ready);
+        uint32_t number = call_once(p, k, ready);
+        if (number != GANTRY_ACCEPTED)
+            return wrong(p, names[k], number);
     }
+    return 1;
 }
 
 /* A new drive starts from zeros, so the solve does too. There the slowest one's commands would stand still: a small state
@@ -133,12 +153,8 @@ int main(int argc, char **argv)
     make_problems(all);
     start_from_zeros(all);
     for (const struct problem *p = all; p < all + PROBLEMS; p++) {
-        if (!agree(p))
+        if (!agree(p) || !(counting ? count(p) : report(p)))
             return 1;
-        if (counting)
-            count(p);
-        else
-            report(p);
     }
     return 0;
 }

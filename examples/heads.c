@@ -7,18 +7,18 @@
 #include "gantry.h"
 #include "words.h"
 
-enum { PEN, KNIFE };
-static const char *const names[GANTRY_HEADS] = {"pen", "knife"};
+enum { PEN, KNIFE, HEADS };
+static const char *const names[HEADS] = {"pen", "knife"};
 
 enum { MOTORS = 2, STATES = 2, TARGETS = 2, MOST_STEPS = 3, MOST = MOTORS * MOST_STEPS };
 enum { LINE = 23, LINES = 1 + GANTRY_DESIGN_NUMBERS(MOST, STATES, TARGETS) }; /* of the longer sheet */
 
 static uint8_t drive[GANTRY_DRIVE_BYTES];
 static uint8_t commands[GANTRY_COMMANDS_BYTES(MOTORS)];
-static int steps; /* of the image that the drive holds */
+static int steps, sweeps; /* of the image that the drive holds */
 
 /* the plant: the place of each head along each motor's axis */
-static int32_t place[GANTRY_HEADS][STATES] = {{1024, 1024}, {0, 512}};
+static int32_t place[HEADS][STATES] = {{1024, 1024}, {0, 512}};
 
 /* ---- tables */
 
@@ -31,6 +31,13 @@ struct tables {
 static size_t image_bytes(const struct tables *t)
 {
     return GANTRY_IMAGE_BYTES(MOTORS * t->steps, STATES, TARGETS);
+}
+
+/* The drive holds these tables from here on. */
+static void hold(const struct tables *t)
+{
+    steps = t->steps;
+    sweeps = (int)get_sweeps(t->image);
 }
 
 static uint32_t read_tables(struct tables *t)
@@ -53,7 +60,7 @@ static void change(const struct tables *t)
     uint32_t number = gantry_new_image(drive, sizeof drive, t->image, image_bytes(t));
     printf("  new image, %d steps", t->steps);
     if (number == GANTRY_ACCEPTED) {
-        steps = t->steps;
+        hold(t);
         printf("\n");
     } else
         printf("   refused %02u\n", (unsigned)number);
@@ -100,23 +107,30 @@ static void turn(uint32_t head, const int32_t *aim)
 
 /* ---- the run */
 
+/* Sweeps for an ask of each head. A period is never refused: the calls alone write the drive. */
+static void begin(int period, const char *what)
+{
+    gantry_period(drive, sizeof drive, (uint16_t)(HEADS * sweeps));
+    printf("period %d%s\n", period, what);
+}
+
 static void run(const struct tables *end)
 {
     static const int32_t seam[2][TARGETS] = {{4096, 0}, {5632, -512}}; /* the knife cuts where the pen has drawn */
     printf("counts of 1/4096, motor 0 and motor 1\n");
     printf("%24s%14s%14s%14s%6s\n", "target", "step 0", "step 1", "step 2", "D");
     for (int period = 1; period <= 4; period++) {
-        printf("period %d\n", period);
+        begin(period, "");
         turn(period % 2 ? PEN : KNIFE, seam[0]);
     }
-    printf("period 5, the cloth's end is near\n");
+    begin(5, ", the cloth's end is near");
     ask(PEN, seam[1]);
     change(end); /* the pen's answer waits, whoever asks for the new tables */
     commit(KNIFE);
     commit(PEN);
     change(end);
     for (int period = 6; period <= 7; period++) {
-        printf("period %d\n", period);
+        begin(period, "");
         turn(period % 2 ? KNIFE : PEN, seam[1]);
     }
 }
@@ -134,12 +148,12 @@ int main(int argc, char **argv)
         number = read_tables(&all[i]);
     }
     if (number == GANTRY_ACCEPTED)
-        number = gantry_make(all[0].image, image_bytes(&all[0]), drive, sizeof drive);
+        number = gantry_make(all[0].image, image_bytes(&all[0]), HEADS, drive, sizeof drive);
     if (number != GANTRY_ACCEPTED) {
         printf("refused %02u\n", (unsigned)number);
         return 1;
     }
-    steps = all[0].steps;
+    hold(&all[0]);
     run(&all[1]);
     return 0;
 }

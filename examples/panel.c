@@ -12,9 +12,11 @@
 enum { MOTORS = 2, STEPS = 3, COMMANDS = MOTORS * STEPS, STATES = 2, TARGETS = 2 };
 enum { LINE = 23, LINES = 1 + GANTRY_DESIGN_NUMBERS(COMMANDS, STATES, TARGETS) }; /* of the sheet */
 enum { POINTS = 5, PERIODS = POINTS + 1 };
-enum { HEAD = 0 }; /* the one head that this table has; a drive has room for a second */
+enum { HEAD, HEADS }; /* the one head that this table has; a drive has room for four */
+enum { ASKS = 2 };    /* of the panel in a period, at most */
 
 static uint8_t drive[GANTRY_DRIVE_BYTES];
+static uint16_t allowance;                              /* the sweeps of a period */
 static uint8_t answer[GANTRY_ANSWER_BYTES(COMMANDS)];   /* what the panel shows */
 static uint8_t commands[GANTRY_COMMANDS_BYTES(MOTORS)]; /* what the motors get */
 static int32_t head[STATES] = {1024, 1024};             /* the plant: the place along each motor's axis */
@@ -28,7 +30,10 @@ static uint32_t make_drive(FILE *file)
     uint8_t image[GANTRY_IMAGE_BYTES(COMMANDS, STATES, TARGETS)];
     size_t length = fread(sheet, 1, sizeof sheet, file);
     uint32_t number = gantry_intake(sheet, length, image, sizeof image);
-    return number == GANTRY_ACCEPTED ? gantry_make(image, sizeof image, drive, sizeof drive) : number;
+    if (number != GANTRY_ACCEPTED)
+        return number;
+    allowance = (uint16_t)(ASKS * get_sweeps(image));
+    return gantry_make(image, sizeof image, HEADS, drive, sizeof drive);
 }
 
 /* ---- the panel */
@@ -116,6 +121,7 @@ static void run(void)
     printf("%22s%14s%14s%14s   %-13s%2s%15s\n", "target", "step 0", "step 1", "step 2", "bounds", "D", "ends at");
     for (int k = 0; k < PERIODS; k++) {
         printf("period %d, the head is at %d %d\n", k + 1, (int)head[0], (int)head[1]);
+        gantry_period(drive, sizeof drive, allowance); /* never refused: the calls alone write the drive */
         if (k < POINTS) /* in the last period the operator is away, and nobody asks */
             panel(seam[k]);
         task();

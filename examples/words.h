@@ -15,6 +15,12 @@ static inline uint32_t get_word(const uint8_t *at)
     return (uint32_t)at[0] << 24 | (uint32_t)at[1] << 16 | (uint32_t)at[2] << 8 | at[3];
 }
 
+/* The sweeps of an image, its word 5: what an ask costs. */
+static inline uint32_t get_sweeps(const uint8_t *image)
+{
+    return get_word(image + 4 * 5);
+}
+
 /* Command k, of an answer or of a commit. */
 static inline int get_command(const uint8_t *from, int k)
 {

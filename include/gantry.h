@@ -38,14 +38,14 @@ extern "C" {
 #define GANTRY_ANSWER_BYTES(n) (8 * (size_t)(n) + 8)
 /* What a commit writes: the commands of one step. */
 #define GANTRY_COMMANDS_BYTES(nu) (4 * (size_t)(nu))
-/* A drive, whatever its image, and its heads: a head is a number from 0 to GANTRY_HEADS - 1. */
-#define GANTRY_DRIVE_BYTES 2688
-#define GANTRY_HEADS 2
+/* A drive, whatever its image and its number of heads, which is 1 to GANTRY_MAX_HEADS. */
+#define GANTRY_DRIVE_BYTES 3120
+#define GANTRY_MAX_HEADS 4
 /* Large enough for every image and every page: n 16, nx 12, nr 4. */
 #define GANTRY_MAX_IMAGE_BYTES GANTRY_IMAGE_BYTES(GANTRY_MAX_COMMANDS, GANTRY_MAX_STATES, GANTRY_MAX_TARGETS)
 #define GANTRY_MAX_PAGE_BYTES GANTRY_PAGE_BYTES(GANTRY_MAX_COMMANDS, GANTRY_MAX_STATES, GANTRY_MAX_TARGETS)
 
-/* Stack enough for any call: the compiled archive takes about 8 KiB at most, read off its machine code (README has the
+/* Stack enough for any call: the compiled archive takes about 8.5 KiB at most, read off its machine code (README has the
  * figures), and the rest is for the memcpy and memset that the firmware supplies. */
 #define GANTRY_STACK_BYTES 12288
 
@@ -54,7 +54,7 @@ enum gantry_number {
     GANTRY_ACCEPTED = 0,
     GANTRY_BAD_LINE = 1,       /* sheet: a line is not 22 digits 0-9 A-F and byte 10 */
     GANTRY_WRONG_LINE = 2,     /* sheet: not the kind, row and column due here, or a zero byte of line 01 is not 0 */
-    GANTRY_BAD_SIZE = 3,       /* a size out of its range, nr among them, or image word 7 not 0; a head that no drive has */
+    GANTRY_BAD_SIZE = 3,       /* a size out of its range, nr and heads among them; image word 7 not 0; no such head */
     GANTRY_BAD_END = 4,        /* sheet: a line missing, or a byte after the last line due */
     GANTRY_BAD_VALUE = 5,      /* NaN, infinity, outside the word once rounded, or a negative limit of state or target */
     GANTRY_BAD_LENGTH = 6,     /* image: fewer than 32 bytes, or not the length that its sizes give */
@@ -70,7 +70,8 @@ enum gantry_number {
     GANTRY_BAD_TARGET = 16,    /* not nr words, or a value beyond its limit; tested directly after 13 */
     GANTRY_NO_STOP = 17,       /* a command's low limit is above 0 or its high limit below 0; tested directly after 7 */
     GANTRY_NO_ANSWER = 18,     /* a commit without a waiting answer */
-    GANTRY_NOT_IDLE = 19       /* a new image, itself acceptable, while either head has a waiting answer */
+    GANTRY_NOT_IDLE = 19,      /* a new image, itself acceptable, while any head made has a waiting answer */
+    GANTRY_NO_SWEEPS = 20      /* an ask, itself acceptable, for which own share and common part together fall short */
 };
 
 /* Reads a design sheet and writes its image. image_len must be the image's exact length (15), which is known from the
@@ -110,38 +111,65 @@ uint32_t gantry_solve(const uint8_t *image, size_t image_len, const uint8_t *sta
 
 /* ---- drives: ask first, then commit
  *
- * A drive is a buffer of GANTRY_DRIVE_BYTES that the caller keeps: it holds an image, and of each of its two heads, pen and
- * knife, a start and perhaps a waiting answer. Its bytes are the library's: make writes all of them, the other calls go on
- * from there, and nobody else should write them. It holds no pointer, so it may be copied, stored and moved; a copy is a
- * drive of its own. Every byte string is a drive with a defined outcome, proved too: one that was damaged is refused by the
- * checks of the image and start that it then holds, or answered from them.
+ * A drive is a buffer of GANTRY_DRIVE_BYTES that the caller keeps. It holds an image and 1 to 4 heads, a pen and a
+ * knife, say: of each head a start, perhaps a waiting answer, and what it has left of its own share of a period's
+ * sweeps; and what is left of their common part. Its bytes are the library's: make writes all of them, the other calls
+ * go on from there, and nobody else should write them. It holds no pointer, so it may be copied, stored and moved; a
+ * copy is a drive of its own, its sweeps counted apart. Every byte string is a drive with a defined outcome, proved
+ * too: one that was damaged is refused by the checks of what it then holds, or answered from that.
  *
- * The heads share the image and nothing else: what is asked and committed for one, or refused, changes no number, answer or
- * start of the other, but that an answer that waits keeps a new image away (19). A head other than 0 or 1 is 3, before all
- * else. A table with one head uses head 0 alone. */
+ * The heads are numbered from 0. A number not below that of the heads made is 3: before all else where it is 4 or more,
+ * and otherwise directly behind the check of the drive's length. A table with one head makes a drive of one, head 0.
+ *
+ * The heads run on one chip, which affords S sweeps a period. Each head owns S divided by the number of heads, rounded
+ * down, and the remainder is common. An ask costs the image's sweeps, from its head's own share first and then from the
+ * common part; where both together fall short it is 20, and nothing is taken. Proved of every run of calls from a new
+ * drive that only they write:
+ * - the sweeps of a period's accepted asks never pass its S; with what is left of the own shares and of the common part
+ *   they are S, unless the drive was made anew within the period, which leaves nothing of either;
+ * - an ask that costs no more than its head then has left of its own share is not 20;
+ * - the heads share the image, the period and the common part, and nothing else: as long as no ask of a head costs more
+ *   than it then has left of its own share, what is asked, committed and done for the others, or refused, changes no
+ *   number, answer, start or share of this head, but that an answer that waits keeps a new image away (19). */
 
-/* Makes a drive of an image, tested as by a solve up to 12: it holds the image and of both heads a start of zeros, and no
- * answer waits. All of its bytes are written, whatever it was before. drive_len must be GANTRY_DRIVE_BYTES (15). Numbers: 0,
- * 3, 5 to 12, 15, 17. The image is copied: its own buffer is no longer needed. */
-uint32_t gantry_make(const uint8_t *image, size_t image_len, uint8_t *drive, size_t drive_len);
+/* Makes a drive of an image, tested as by a solve up to 12, and 1 to 4 heads (3, before all else): it holds the image
+ * and of each head a start of zeros; no answer waits, and there are no sweeps until a period begins. All of its bytes
+ * are written, whatever it was before. drive_len must be GANTRY_DRIVE_BYTES (15). Numbers: 0, 3, 5 to 12, 15, 17. The
+ * image is copied: its own buffer is no longer needed. */
+uint32_t gantry_make(const uint8_t *image, size_t image_len, uint32_t heads, uint8_t *drive, size_t drive_len);
 
-/* Solves on the drive's image from the head's start: number, answer and what is promised of it are those of gantry_solve
- * with this image and start, behind 3 for the head and 15 for the drive's length. With 0 the answer, GANTRY_ANSWER_BYTES, is
- * written and kept as the head's waiting one, in place of an earlier one; the start stays, so asks may be repeated. Numbers
- * of a drive that these calls alone have written: 0, 3, 13, 15, 16; of a damaged one also 5 to 12, 14, 17. */
+/* Begins a period of S sweeps: what was left of the one before lapses, each head owns its share of S, also one that was
+ * done, and the remainder is common. Starts and waiting answers stay. Where S is at least the number of heads times the
+ * image's sweeps, each share is enough for an ask. Numbers of a drive that these calls alone have written: 0, 15; of a
+ * damaged one also 3, where its number of heads is not 1 to 4; tested 15, 3. */
+uint32_t gantry_period(uint8_t *drive, size_t drive_len, uint16_t sweeps);
+
+/* Solves on the drive's image from the head's start: number, answer and what is promised of it are those of
+ * gantry_solve with this image and start, behind the checks of head and drive_len (3, 15, 3), and before that of the
+ * sweeps (20). With 0 the answer, GANTRY_ANSWER_BYTES, is written and kept as the head's waiting one, in place of an
+ * earlier one, and the image's sweeps are taken; the start stays, so asks may be repeated while the sweeps last. A
+ * refused ask takes no sweeps, and leaves the earlier answer waiting. Numbers of a drive that these calls alone have
+ * written: 0, 3, 13, 15, 16, 20; of a damaged one also 5 to 12, 14, 17. */
 uint32_t gantry_ask(uint8_t *drive, size_t drive_len, uint32_t head, const uint8_t *state, size_t state_len,
                     const uint8_t *target, size_t target_len, uint8_t *answer, size_t answer_len);
 
-/* Writes the first nu commands of the head's waiting answer, GANTRY_COMMANDS_BYTES, for the motors. The rest moves one step
- * forward, the last step is repeated, and each is held to the limits of its new step: that is the head's next start, and the
- * answer no longer waits. Numbers of a drive that these calls alone have written: 0, 3, 15, 18; of a damaged one also 6.
- * Tested: 3 for the head, 15 for the drive's length, the held image's length and sizes (6, 3, 6), 15 for commands_len, 18. */
+/* Writes the first nu commands of the head's waiting answer, GANTRY_COMMANDS_BYTES, for the motors. The rest moves one
+ * step forward, the last step is repeated, and each is held to the limits of its new step: that is the head's next
+ * start, and the answer no longer waits. It costs no sweeps. Numbers of a drive that these calls alone have written: 0,
+ * 3, 15, 18; of a damaged one also 6. Tested: head and drive_len (3, 15, 3), the held image's length and sizes (6, 3,
+ * 6), 15 for commands_len, 18. */
 uint32_t gantry_commit(uint8_t *drive, size_t drive_len, uint32_t head, uint8_t *commands, size_t commands_len);
 
-/* Replaces the image of a drive, for both heads, while neither has a waiting answer (19): the starts are zeros again, and all
- * of the drive's bytes are as gantry_make with this image leaves them. It may have other sizes than the one before. Numbers:
- * those of gantry_make, then 19: an image that is itself refused has its own number, and a wrong drive_len is 15, whether an
- * answer waits or not. */
+/* The head is done for this period: what it has left of its own share becomes common. It may still commit what waits,
+ * and ask from the common part; done again it moves nothing, and from the next period on it owns its share again.
+ * Numbers: 0, 3, 15, tested 3, 15, 3. */
+uint32_t gantry_done(uint8_t *drive, size_t drive_len, uint32_t head);
+
+/* Replaces the image of a drive, for every head made, while none of them has a waiting answer (19): the starts are
+ * zeros again. The number of heads and the sweeps that are left stay, and later asks cost the new image's sweeps; all
+ * other bytes are as gantry_make with this image leaves them. It may have other sizes than the one before. Numbers: 0,
+ * 3, 5 to 12, 15, 17, 19. The image is tested first, as by gantry_make, then drive_len, then 19: an image that is
+ * itself refused has its own number, whether an answer waits or not. */
 uint32_t gantry_new_image(uint8_t *drive, size_t drive_len, const uint8_t *image, size_t image_len);
 
 #ifdef __cplusplus
