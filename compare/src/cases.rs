@@ -8,12 +8,13 @@ mod made;
 mod nearest;
 mod rest;
 mod script;
+mod shares;
 mod stop;
 mod sums;
 
 pub use nearest::with_ties;
 pub use rest::{Rest, rests, table as at_rest};
-pub use script::{Script, answers, run_script};
+pub use script::{Answers, Script, answers, run_script};
 
 use crate::double::of_count;
 use crate::draft::{Draft, keep_former, text};
@@ -203,10 +204,12 @@ pub fn table() -> Vec<Case> {
     table
 }
 
-/// Those of requests 9 and 10, and each once more with the heads exchanged.
+/// Those of requests 9 to 11, each once more with the heads in other places, and those of requests 9 and 10 also on
+/// drives of four heads.
 pub fn scripts() -> Vec<Script> {
-    let all = || made::scripts().into_iter().chain(heads::scripts());
-    all().chain(all().map(Script::exchanged)).collect()
+    let former = || made::scripts().into_iter().chain(heads::scripts());
+    let all = || former().chain(shares::scripts());
+    all().chain(all().filter_map(Script::turned)).chain(former().filter_map(Script::of_four)).collect()
 }
 
 fn of_document_01() -> Vec<Case> {

@@ -16,15 +16,22 @@ pub enum Kind {
     Ask,
     Commit,
     NewImage,
+    Period,
+    Done,
     ToWord,
     Inward,
     ToDouble,
 }
 
 impl Kind {
-    /// Is it one of requests 9 and 10, which have a made drive beside the other buffers?
+    /// Is it one of requests 9 to 11, which have a made drive beside the other buffers?
     pub fn is_on_made(self) -> bool {
-        matches!(self, Kind::Make | Kind::Ask | Kind::Commit | Kind::NewImage)
+        matches!(self, Kind::Make | Kind::NewImage | Kind::Period) || self.has_head()
+    }
+
+    /// Is it a call of one head?
+    pub fn has_head(self) -> bool {
+        matches!(self, Kind::Ask | Kind::Commit | Kind::Done)
     }
 
     pub fn name(self) -> &'static str {
@@ -37,6 +44,8 @@ impl Kind {
             Kind::Ask => "ask",
             Kind::Commit => "commit",
             Kind::NewImage => "new_image",
+            Kind::Period => "period",
+            Kind::Done => "done",
             Kind::ToWord => "to_word",
             Kind::Inward => "inward",
             Kind::ToDouble => "to_double",
@@ -47,9 +56,11 @@ impl Kind {
     pub fn arguments(self) -> (&'static [&'static str], &'static [&'static str]) {
         match self {
             Kind::Intake | Kind::Page => (&[], &["sheet"]),
-            Kind::ColdStart | Kind::Make | Kind::NewImage => (&[], &["image"]),
+            Kind::ColdStart | Kind::NewImage => (&[], &["image"]),
+            Kind::Make => (&["heads"], &["image"]),
             Kind::Ask => (&["head"], &["state", "target"]),
-            Kind::Commit => (&["head"], &[]),
+            Kind::Commit | Kind::Done => (&["head"], &[]),
+            Kind::Period => (&["sweeps"], &[]),
             Kind::Solve => (&[], &["image", "state", "target", "start"]),
             Kind::ToWord => (&["bits", "b", "w", "how"], &[]),
             Kind::Inward => (&["low_bits", "high_bits", "b", "w"], &[]),
@@ -96,8 +107,8 @@ impl Call {
 #[derive(Clone)]
 pub struct Act {
     pub kind: Kind,
-    /// Of an ask and of a commit.
-    pub head: Option<u32>,
+    /// The heads of a make, the sweeps of a period, or the head of an ask, a commit or a done.
+    pub number: Option<u32>,
     pub inputs: Vec<Vec<u8>>,
     pub out_len: usize,
     /// The length of the drive that it is made on.
@@ -105,18 +116,22 @@ pub struct Act {
 }
 
 impl Act {
-    fn new(kind: Kind, head: Option<u32>, inputs: &[&[u8]], out_len: usize) -> Act {
+    fn new(kind: Kind, number: Option<u32>, inputs: &[&[u8]], out_len: usize) -> Act {
         let inputs = inputs.iter().map(|input| input.to_vec()).collect();
-        Act { kind, head, inputs, out_len, made_len: MADE_LEN }
+        Act { kind, number, inputs, out_len, made_len: MADE_LEN }
     }
 
-    /// It writes to the drive alone, and has no output buffer, as a new image.
-    pub fn make(image: &[u8]) -> Act {
-        Act::new(Kind::Make, None, &[image], 0)
+    /// It writes to the drive alone, and has no output buffer, as a new image, a period and a done.
+    pub fn make(image: &[u8], heads: u32) -> Act {
+        Act::new(Kind::Make, Some(heads), &[image], 0)
     }
 
     pub fn new_image(image: &[u8]) -> Act {
         Act::new(Kind::NewImage, None, &[image], 0)
+    }
+
+    pub fn period(sweeps: u16) -> Act {
+        Act::new(Kind::Period, Some(sweeps.into()), &[], 0)
     }
 
     pub fn ask(head: u32, [state, target]: [&[u8]; 2], answer_len: usize) -> Act {
@@ -127,6 +142,15 @@ impl Act {
         Act::new(Kind::Commit, Some(head), &[], commands_len)
     }
 
+    pub fn done(head: u32) -> Act {
+        Act::new(Kind::Done, Some(head), &[], 0)
+    }
+
+    /// Of an ask, of a commit and of a done.
+    pub fn head(&self) -> Option<u32> {
+        self.number.filter(|_| self.kind.has_head())
+    }
+
     pub fn length(self, made_len: usize) -> Act {
         Act { made_len, ..self }
     }
@@ -135,7 +159,7 @@ impl Act {
     pub fn on(&self, made: &[u8]) -> Call {
         let mut made = made.to_vec();
         made.resize(self.made_len, 0x3C);
-        let numbers = self.head.map(u64::from).into_iter().collect();
+        let numbers = self.number.map(u64::from).into_iter().collect();
         Call { kind: self.kind, numbers, inputs: self.inputs.clone(), made, out_len: self.out_len }
     }
 }
@@ -152,7 +176,7 @@ pub struct Outcome {
 pub trait Drive {
     fn call(&self, kind: Kind, numbers: &[u64], inputs: &[&[u8]], out: &mut [u8]) -> Number;
 
-    /// The calls of requests 9 and 10. Those of other requests' false economies are right.
+    /// The calls of requests 9 to 11. Those of other requests' false economies are right.
     fn call_made(&self, kind: Kind, numbers: &[u64], made: &mut [u8], inputs: &[&[u8]], out: &mut [u8]) -> Number {
         made::call(kind, numbers, made, inputs, out)
     }
@@ -243,7 +267,7 @@ mod linked {
             answer: *mut u8,
             answer_len: usize,
         ) -> u32;
-        fn gantry_make(image: *const u8, image_len: usize, drive: *mut u8, drive_len: usize) -> u32;
+        fn gantry_make(image: *const u8, image_len: usize, heads: u32, drive: *mut u8, drive_len: usize) -> u32;
         fn gantry_ask(
             drive: *mut u8,
             drive_len: usize,
@@ -257,6 +281,8 @@ mod linked {
         ) -> u32;
         fn gantry_commit(drive: *mut u8, drive_len: usize, head: u32, commands: *mut u8, commands_len: usize) -> u32;
         fn gantry_new_image(drive: *mut u8, drive_len: usize, image: *const u8, image_len: usize) -> u32;
+        fn gantry_period(drive: *mut u8, drive_len: usize, sweeps: u16) -> u32;
+        fn gantry_done(drive: *mut u8, drive_len: usize, head: u32) -> u32;
     }
 
     /// The static library.
@@ -294,7 +320,9 @@ mod linked {
             // SAFETY: every pointer comes with the length of the slice it was taken from.
             unsafe {
                 match (kind, numbers, inputs) {
-                    (Kind::Make, [], [image]) => gantry_make(image.as_ptr(), image.len(), drive, length),
+                    (Kind::Make, &[heads], [image]) => {
+                        gantry_make(image.as_ptr(), image.len(), heads as u32, drive, length)
+                    }
                     (Kind::Ask, &[head], [state, target]) => gantry_ask(
                         drive,
                         length,
@@ -308,6 +336,8 @@ mod linked {
                     ),
                     (Kind::Commit, &[head], []) => gantry_commit(drive, length, head as u32, to, room),
                     (Kind::NewImage, [], [image]) => gantry_new_image(drive, length, image.as_ptr(), image.len()),
+                    (Kind::Period, &[sweeps], []) => gantry_period(drive, length, sweeps as u16),
+                    (Kind::Done, &[head], []) => gantry_done(drive, length, head as u32),
                     _ => panic!("{kind:?} with other arguments than its own"),
                 }
             }

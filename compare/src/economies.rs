@@ -1,4 +1,4 @@
-//! The false economies and lazy drives of document 01, those of requests 1 to 10, and those that end a solve too
+//! The false economies and lazy drives of document 01, those of requests 1 to 11, and those that end a solve too
 //! early. Each must be found on the table of cases: a comparison that cannot fail is worthless.
 
 mod distance;
@@ -10,7 +10,7 @@ mod rest;
 mod stop;
 mod sums;
 
-use crate::cases::{self, Case, Script};
+use crate::cases::{self, Answers, Case, Script};
 use crate::double::{Rounding, of_count, to_word};
 use crate::drive::{Drive, Kind, Reference};
 use crate::former::{Former, Without};
@@ -552,7 +552,8 @@ pub fn count() -> u64 {
 pub struct Tables {
     pub cases: Vec<Case>,
     pub at_rest: Vec<Case>,
-    pub scripts: Vec<Script>,
+    /// With what is right.
+    pub scripts: Vec<(Script, Answers)>,
 }
 
 pub fn run(harness: &mut Harness, index: u64, tables: &Tables) {

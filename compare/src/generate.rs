@@ -20,9 +20,12 @@ pub const COLD_START_NUMBERS: [Number; 11] = [3, 5, 6, 7, 17, 8, 9, 10, 11, 12, 
 pub const SOLVE_NUMBERS: [Number; 14] = [3, 5, 6, 7, 17, 8, 9, 10, 11, 12, 13, 16, 14, 15];
 pub const MAKE_NUMBERS: [Number; 11] = COLD_START_NUMBERS;
 /// Those of the image and of the start where something else than the calls wrote to the drive.
-pub const ASK_NUMBERS: [Number; 14] = SOLVE_NUMBERS;
+pub const ASK_NUMBERS: [Number; 15] = [3, 5, 6, 7, 17, 8, 9, 10, 11, 12, 13, 16, 14, 15, 20];
 pub const COMMIT_NUMBERS: [Number; 4] = [6, 3, 15, 18];
 pub const NEW_IMAGE_NUMBERS: [Number; 12] = [3, 5, 6, 7, 17, 8, 9, 10, 11, 12, 15, 19];
+/// 3 of a period where something else wrote the number of heads.
+pub const PERIOD_NUMBERS: [Number; 2] = [15, 3];
+pub const DONE_NUMBERS: [Number; 2] = [3, 15];
 pub const LABEL_NUMBERS: [Number; 14] = [1, 2, 3, 4, 5, 7, 17, 8, 9, 10, 11, 12, 13, 16];
 pub const PAGE_PROGRAM_NUMBERS: [Number; 12] = [1, 2, 3, 4, 5, 7, 17, 8, 9, 10, 11, 12];
 /// Those of the tables.
@@ -97,21 +100,27 @@ fn sizes(random: &mut Random, targets: usize) -> Sizes {
     let (motors, steps) = random.pick(if largest { &[(1, 16), (2, 8), (4, 4)] } else { &all });
     let states = if largest { 12 } else { random.between(1, 12) };
     let width = if largest { 32 } else { random.between(8, 32) };
-    let iterations = match random.below(32) {
-        0 => 400,
-        1 => random.between(1, 400),
-        2..6 => random.between(1, 60),
-        _ => random.between(1, 8),
-    };
+    let iterations = iterations(random);
     Sizes {
         motors,
         steps,
         states: states as usize,
         bits: random.between(4, (width - 2).min(20)) as u32,
         width: width as u32,
-        iterations: iterations as usize,
+        iterations,
         targets,
     }
+}
+
+/// Sweeps, most often few.
+pub fn iterations(random: &mut Random) -> usize {
+    let iterations = match random.below(32) {
+        0 => 400,
+        1 => random.between(1, 400),
+        2..6 => random.between(1, 60),
+        _ => random.between(1, 8),
+    };
+    iterations as usize
 }
 
 /// H: symmetric, with a margin of at least 1 and a total of at most 2^b in each row, both often met exactly.
@@ -583,12 +592,35 @@ pub fn commands_len(random: &mut Random, sizes: &Sizes) -> usize {
     random.pick(&[other, other, 4 * n, 4 * sizes.steps, 8 * sizes.motors, solve::answer_len(n)])
 }
 
-/// A head that no drive has. Cut to fewer bits some are 0 or 1.
+/// A head that no drive has. Cut to fewer bits some are 0 to 3.
 pub fn other_head(random: &mut Random) -> u32 {
-    let any = random.next() as u32 | 2;
-    let low = random.below(2) as u32;
-    let cut = random.pick(&[1 << 8, 1 << 16, 1 << 24, 1 << 31, any & !0xFF | 1 << 9]) + low;
-    random.pick(&[2, 2, 3, 4, 255, cut, cut, u32::MAX, u32::MAX - 1, any])
+    let any = random.next() as u32 | 4;
+    let cut = cut_number(random) + random.below(4) as u32;
+    random.pick(&[4, 4, 5, 6, 255, cut, cut, u32::MAX, u32::MAX - 1, any])
+}
+
+/// A number of heads that no drive has. Cut to fewer bits some are 1 to 4.
+pub fn other_heads(random: &mut Random) -> u32 {
+    let any = random.next() as u32 | 8;
+    let cut = cut_number(random) + random.between(1, 4) as u32;
+    random.pick(&[0, 0, 5, 5, 8, cut, cut, u32::MAX, any])
+}
+
+/// Zero in fewer bits.
+fn cut_number(random: &mut Random) -> u32 {
+    let any = random.next() as u32;
+    random.pick(&[1 << 8, 1 << 16, 1 << 24, 1 << 31, any & !0xFF | 1 << 9])
+}
+
+/// S: none, the most, for no ask or for so many of each head, with a remainder that may be enough for another.
+pub fn allowance(random: &mut Random, sizes: &Sizes, heads: usize) -> u16 {
+    let (sweeps, heads) = (sizes.iterations as i64, heads.max(1) as i64);
+    let asks = random.between(0, 3) * sweeps + random.between(0, 2 * sweeps) / 2;
+    let of_each = heads * asks + random.between(0, heads);
+    let about = heads * sweeps * random.between(0, 3) + random.between(-2, 2);
+    let (one, any) = (sweeps + random.between(-1, 1), random.magnitude(65535));
+    let allowance = random.pick(&[0, 65535, 65535, one, of_each, of_each, about, any]);
+    allowance.clamp(0, 65535) as u16
 }
 
 fn spoil_header(random: &mut Random, sizes: &Sizes, image: &mut [u8]) {

@@ -14,8 +14,8 @@ use crate::sheet::{self, hex, number_of};
 
 const GUARD: u8 = 0xA5;
 const GUARD_LEN: usize = 32;
-/// 0 to 19.
-pub const NUMBERS: usize = 20;
+/// 0 to 20.
+pub const NUMBERS: usize = 21;
 /// Failures printed in full; later ones are only counted.
 const PRINTED: u64 = 5;
 
@@ -106,7 +106,7 @@ pub struct Harness<'a> {
     pub renewed: BTreeSet<(usize, usize)>,
     /// How often a random solve lay at an edge of check 12 or 17, came to rest in some way, had a D or an optimum of
     /// some kind, or was another than before request 4 or 6, a random sheet another than before request 7, and a random
-    /// run came by an edge of request 9 or 10.
+    /// run came by an edge of request 9, 10 or 11.
     pub edges: BTreeMap<&'static str, u64>,
     /// What became of the numbers of tables in random sheets.
     pub tables: BTreeSet<TableEdge>,

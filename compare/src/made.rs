@@ -1,5 +1,5 @@
-//! Requests 9 and 10: a made drive, which is a buffer of the caller's, and the calls make, ask, commit and new image on
-//! its bytes.
+//! Requests 9 to 11: a made drive, which is a buffer of the caller's, and the calls make, ask, commit, new image, period
+//! and done on its bytes.
 
 use std::ops::Range;
 
@@ -8,16 +8,20 @@ use crate::image::{HEADER_WORDS, HIGH, LOW, Number, Sizes, bytes, open, read_siz
 use crate::rules::Rules;
 use crate::solve::{answer_len, solve_call};
 
-/// Where its parts begin: behind the length of the image the image, and then for each head a word that is 0 where no
-/// answer waits, the start and the answer. Each part has room for that of the largest image.
+/// Where its parts begin: behind the length of the image the image, then for each head a word that is 0 where no answer
+/// waits, the start and the answer, and behind these the number of heads, the common sweeps, and for each head what it
+/// has left of its own. Each part has room for that of the largest image.
 pub const IMAGE: usize = 4;
-pub const WAITS: [usize; HEADS] = [2280, 2484];
-pub const START: [usize; HEADS] = [2284, 2488];
-pub const ANSWER: [usize; HEADS] = [2348, 2552];
-pub const MADE_LEN: usize = 2688;
+pub const WAITS: [usize; HEADS] = [2280, 2484, 2688, 2892];
+pub const START: [usize; HEADS] = [2284, 2488, 2692, 2896];
+pub const ANSWER: [usize; HEADS] = [2348, 2552, 2756, 2960];
+pub const COUNT: usize = 3096;
+pub const COMMON: usize = 3100;
+pub const OWN: [usize; HEADS] = [3104, 3108, 3112, 3116];
+pub const MADE_LEN: usize = 3120;
 
-/// Head 0 and head 1.
-pub const HEADS: usize = 2;
+/// The most that a drive can be made with.
+pub const HEADS: usize = 4;
 /// The room of the image.
 pub const IMAGE_ROOM: Range<usize> = IMAGE..WAITS[0];
 
@@ -34,8 +38,10 @@ pub fn call(kind: Kind, numbers: &[u64], made: &mut [u8], inputs: &[&[u8]], out:
 /// What the papers say of a call on a made drive.
 pub fn outcome(kind: Kind, numbers: &[u64], made: &[u8], inputs: &[&[u8]], out_len: usize) -> Outcome {
     let result = match (kind, numbers, inputs) {
-        (Kind::Make, [], &[image]) => make(image, made.len()).map(alone),
+        (Kind::Make, &[heads], &[image]) => make(image, heads, made.len()).map(alone),
         (Kind::NewImage, [], &[image]) => new_image(made, image).map(alone),
+        (Kind::Period, &[sweeps], []) => period(made, sweeps).map(alone),
+        (Kind::Done, &[head], []) => done(made, head).map(alone),
         (Kind::Ask, &[head], &[state, target]) => ask(made, head, [state, target], out_len).map(both),
         (Kind::Commit, &[head], []) => commit(made, head, out_len).map(both),
         _ => panic!("{kind:?} with other arguments than its own"),
@@ -54,40 +60,88 @@ fn both((made, written): (Vec<u8>, Vec<u8>)) -> (Vec<u8>, Option<Vec<u8>>) {
     (made, Some(written))
 }
 
-/// The image's number, then 15 for the drive's length. Every byte is written.
-fn make(image: &[u8], made_len: usize) -> Result<Vec<u8>, Number> {
+/// 3 for the number of heads, the image's number, then 15 for the drive's length. Every byte is written.
+fn make(image: &[u8], heads: u64, made_len: usize) -> Result<Vec<u8>, Number> {
+    if !(1..=HEADS as u64).contains(&heads) {
+        return Err(3);
+    }
+    let mut made = with_image(image, made_len)?;
+    made.resize(MADE_LEN, 0);
+    put_word(&mut made, COUNT, heads as u32);
+    Ok(made)
+}
+
+/// What a make and a new image write alike: all that is before the number of heads.
+fn with_image(image: &[u8], made_len: usize) -> Result<Vec<u8>, Number> {
     open(image, Rules::default())?;
     if made_len != MADE_LEN {
         return Err(15);
     }
-    let mut made = vec![0; MADE_LEN];
+    let mut made = vec![0; COUNT];
     made[..IMAGE].copy_from_slice(&bytes(&[image.len() as i64]));
     made[IMAGE..IMAGE + image.len()].copy_from_slice(image);
     Ok(made)
 }
 
-/// The same, and then 19. Of the drive the two waiting words alone count.
+/// The image's number, 15, and then 19. Of the drive the waiting words of the heads made alone count.
 fn new_image(made: &[u8], image: &[u8]) -> Result<Vec<u8>, Number> {
-    let new = make(image, made.len())?;
-    if (0..HEADS).any(|head| waits(made, head)) { Err(19) } else { Ok(new) }
+    let new = with_image(image, made.len())?;
+    let waiting = (0..heads_made(made)).any(|head| waits(made, head));
+    if waiting { Err(19) } else { Ok([&new, &made[COUNT..]].concat()) }
 }
 
-/// The drive with this answer waiting at the head, and the answer.
+/// 15, and 3 where something else wrote the number of heads. What was left of the earlier period is gone.
+fn period(made: &[u8], sweeps: u64) -> Result<Vec<u8>, Number> {
+    if made.len() != MADE_LEN {
+        return Err(15);
+    }
+    let (count, sweeps) = (word_at(made, COUNT), sweeps as u32);
+    if !(1..=HEADS as u32).contains(&count) {
+        return Err(3);
+    }
+    let mut made = made.to_vec();
+    put_word(&mut made, COMMON, sweeps % count);
+    (0..count as usize).for_each(|head| put_word(&mut made, OWN[head], sweeps / count));
+    Ok(made)
+}
+
+/// The drive with the head's unused share in the common part. Where something else wrote the two, their sum may be cut.
+fn done(made: &[u8], head: u64) -> Result<Vec<u8>, Number> {
+    let head = read_head(made, head)?;
+    let (own, common) = (word_at(made, OWN[head]), word_at(made, COMMON));
+    let mut made = made.to_vec();
+    put_word(&mut made, COMMON, common.wrapping_add(own));
+    put_word(&mut made, OWN[head], 0);
+    Ok(made)
+}
+
+/// The drive with this answer waiting at the head and without its sweeps, and the answer. 20 is the last number.
 fn ask(made: &[u8], head: u64, [state, target]: [&[u8]; 2], out_len: usize) -> Result<(Vec<u8>, Vec<u8>), Number> {
-    let head = read_head(head)?;
+    let head = read_head(made, head)?;
     let held = Held::of(made)?;
     // An image without sizes is refused before its start is looked at.
     let start = held.sizes().map_or(&[][..], |sizes| &made[start_part(head, &sizes)]);
     let answer = solve_call([held.image, state, target, start], out_len, Rules::default())?;
+    let [own, common] = left_after(made, head, held.sizes()?.iterations as u64).ok_or(20u32)?;
     let mut made = made.to_vec();
     made[ANSWER[head]..ANSWER[head] + answer.len()].copy_from_slice(&answer);
     put_waits(&mut made, head, 1);
+    put_word(&mut made, OWN[head], own);
+    put_word(&mut made, COMMON, common);
     Ok((made, answer))
+}
+
+/// What so many sweeps of a head leave of its own and of the common ones, unless these fall short.
+fn left_after(made: &[u8], head: usize, sweeps: u64) -> Option<[u32; 2]> {
+    let [own, common] = [OWN[head], COMMON].map(|at| u64::from(word_at(made, at)));
+    let of_own = own.min(sweeps);
+    let common = common.checked_sub(sweeps - of_own)?;
+    Some([(own - of_own) as u32, common as u32])
 }
 
 /// The drive with the head's next start, and the first step of its answer that waited.
 fn commit(made: &[u8], head: u64, out_len: usize) -> Result<(Vec<u8>, Vec<u8>), Number> {
-    let head = read_head(head)?;
+    let head = read_head(made, head)?;
     let held = Held::of(made)?;
     let sizes = held.sizes()?;
     if out_len != 4 * sizes.motors {
@@ -107,13 +161,20 @@ fn commit(made: &[u8], head: u64, out_len: usize) -> Result<(Vec<u8>, Vec<u8>), 
     Ok((new, first.to_vec()))
 }
 
-/// Any other head is 3, before all else.
-fn read_head(head: u64) -> Result<usize, Number> {
-    match head {
-        0 => Ok(0),
-        1 => Ok(1),
-        _ => Err(3),
+/// A head that no drive has is 3, before all else; behind the drive's length, one that it was not made with.
+fn read_head(made: &[u8], head: u64) -> Result<usize, Number> {
+    if head >= HEADS as u64 {
+        return Err(3);
     }
+    if made.len() != MADE_LEN {
+        return Err(15);
+    }
+    if head < u64::from(word_at(made, COUNT)) { Ok(head as usize) } else { Err(3) }
+}
+
+/// Those that a new image heeds. A number above the most, which something else wrote, counts as the most.
+pub fn heads_made(made: &[u8]) -> usize {
+    (word_at(made, COUNT) as usize).min(HEADS)
 }
 
 /// The low is tested first. In a drive that only the calls wrote no low is above its high, and the order is all one.
@@ -156,12 +217,16 @@ pub fn word_at(made: &[u8], at: usize) -> u32 {
     u32::from_be_bytes(made[at..at + 4].try_into().unwrap())
 }
 
+pub fn put_word(made: &mut [u8], at: usize, word: u32) {
+    made[at..at + 4].copy_from_slice(&word.to_be_bytes());
+}
+
 pub fn waits(made: &[u8], head: usize) -> bool {
     word_at(made, WAITS[head]) != 0
 }
 
 pub fn put_waits(made: &mut [u8], head: usize, word: u32) {
-    made[waits_part(head)].copy_from_slice(&word.to_be_bytes());
+    put_word(made, WAITS[head], word);
 }
 
 pub fn waits_part(head: usize) -> Range<usize> {
@@ -189,7 +254,19 @@ pub fn answer_room(head: usize) -> Range<usize> {
     ANSWER[head]..head_part(head).end
 }
 
-/// All that a head has of its own.
+/// All that a head has of its own, but for its sweeps.
 pub fn head_part(head: usize) -> Range<usize> {
-    WAITS[head]..WAITS.get(head + 1).copied().unwrap_or(MADE_LEN)
+    WAITS[head]..WAITS.get(head + 1).copied().unwrap_or(COUNT)
+}
+
+pub fn count_part() -> Range<usize> {
+    COUNT..COMMON
+}
+
+pub fn common_part() -> Range<usize> {
+    COMMON..OWN[0]
+}
+
+pub fn own_part(head: usize) -> Range<usize> {
+    OWN[head]..OWN[head] + 4
 }

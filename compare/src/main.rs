@@ -1,4 +1,4 @@
-//! The second program: document 01 with requests 1 to 10 implemented on its own, beside the static library, the label
+//! The second program: document 01 with requests 1 to 11 implemented on its own, beside the static library, the label
 //! program and the page program.
 
 mod big;
@@ -43,7 +43,7 @@ const COUNT: u64 = 100_000;
 const LONG_COUNT: u64 = 20 * COUNT;
 /// From this count on a run has to have met every number of every call, every size, every nr with every n and with every
 /// nx, limits that change along every N, every edge of checks 12 and 17, every way to round a table, every way to come to
-/// rest, every kind of D and of optimum, all that requests 4, 6 and 7 change, and every edge of requests 9 and 10.
+/// rest, every kind of D and of optimum, all that requests 4, 6 and 7 change, and every edge of requests 9 to 11.
 const COVERING_COUNT: u64 = 20_000;
 
 struct Options {
@@ -156,7 +156,7 @@ fn print_numbers(harness: &Harness) {
 fn require_cover(harness: &mut Harness) {
     harness.enter("cover", 0);
     let conversions: [Number; 1] = [5];
-    let can: [(&str, &[Number]); 13] = [
+    let can: [(&str, &[Number]); 15] = [
         ("intake", &generate::INTAKE_NUMBERS),
         ("page", &generate::PAGE_NUMBERS),
         ("cold_start", &generate::COLD_START_NUMBERS),
@@ -165,6 +165,8 @@ fn require_cover(harness: &mut Harness) {
         ("ask", &generate::ASK_NUMBERS),
         ("commit", &generate::COMMIT_NUMBERS),
         ("new_image", &generate::NEW_IMAGE_NUMBERS),
+        ("period", &generate::PERIOD_NUMBERS),
+        ("done", &generate::DONE_NUMBERS),
         ("label", &generate::LABEL_NUMBERS),
         ("page_program", &generate::PAGE_PROGRAM_NUMBERS),
         ("to_word", &conversions),
@@ -191,11 +193,11 @@ fn require_cover(harness: &mut Harness) {
     require_runs(harness);
 }
 
-/// What requests 9 and 10 are about.
+/// What requests 9 to 11 are about.
 fn require_runs(harness: &mut Harness) {
     let (committed, renewed) = (harness.committed.len(), harness.renewed.len());
-    println!("random runs: of 33 pairs of nu and N {renewed} were new images, and {committed} of 66 heads committed");
-    harness.check((committed, renewed) == (66, 33), || "  some sizes were never committed, or new".to_string());
+    println!("random runs: of 33 pairs of nu and N {renewed} were new images, and {committed} of 132 heads committed");
+    harness.check((committed, renewed) == (132, 33), || "  some sizes were never committed, or new".to_string());
     for edge in runs::edges() {
         let met = harness.edges.get(edge).copied().unwrap_or(0);
         println!("random runs, {edge}: {met}");

@@ -1,17 +1,19 @@
-//! Requests 9 and 10 without bytes: what a made drive holds by the calls alone, and the starts that a run of them
-//! counts.
+//! Requests 9 to 11 without bytes: what a made drive holds by the calls alone, the starts that a run of them counts, and
+//! the sweeps that they leave of a period.
 
 use crate::drive::Kind;
 use crate::image::{Number, Problem, Sizes, bytes, open};
-use crate::made::{HEADS, MADE_LEN};
+use crate::made::MADE_LEN;
 use crate::rules::Rules;
 use crate::solve::{Answer, answer, answer_len, read_state, read_target};
 
-/// The image, which the heads share, and what each of them has of its own.
+/// The image and the allowance, which the heads share, and what each of them has of its own.
 pub struct Plain {
     pub image: Vec<u8>,
     pub problem: Problem,
-    pub heads: [Head; HEADS],
+    /// As many as the last make said.
+    pub heads: Vec<Head>,
+    pub allowance: Allowance,
 }
 
 /// A start, and perhaps a waiting answer.
@@ -20,12 +22,61 @@ pub struct Head {
     pub waiting: Option<Answer>,
 }
 
+/// The sweeps of a period, counted one by one. All are 0 before the first.
+pub struct Allowance {
+    pub is_begun: bool,
+    /// S.
+    pub sweeps: u64,
+    /// Those of the asks that were granted since it began.
+    pub granted: u64,
+    pub common: u64,
+    pub own: Vec<u64>,
+}
+
+impl Allowance {
+    fn begin(sweeps: u64, heads: usize) -> Allowance {
+        let share = sweeps / heads as u64;
+        let common = sweeps - heads as u64 * share;
+        Allowance { is_begun: true, sweeps, granted: 0, common, own: vec![share; heads] }
+    }
+
+    fn none(heads: usize) -> Allowance {
+        Allowance { is_begun: false, sweeps: 0, granted: 0, common: 0, own: vec![0; heads] }
+    }
+
+    /// What an ask of this head may cost.
+    pub fn left(&self, head: usize) -> u64 {
+        self.own[head] + self.common
+    }
+
+    fn take(&mut self, head: usize, sweeps: u64) {
+        self.granted += sweeps;
+        for _ in 0..sweeps {
+            let left = if self.own[head] > 0 { &mut self.own[head] } else { &mut self.common };
+            *left -= 1;
+        }
+    }
+}
+
 impl Plain {
-    pub fn make(image: &[u8], made_len: usize) -> Result<Plain, Number> {
-        let problem = open(image, Rules::default())?;
-        let n = problem.sizes.commands();
-        let heads = [0; HEADS].map(|_| Head { start: vec![0; n], waiting: None });
-        if made_len == MADE_LEN { Ok(Plain { image: image.to_vec(), problem, heads }) } else { Err(15) }
+    pub fn make(image: &[u8], heads: u32, made_len: usize) -> Result<Plain, Number> {
+        if !matches!(heads, 1..=4) {
+            return Err(3);
+        }
+        let problem = read_image(image, made_len)?;
+        let (heads, allowance) = (new_heads(&problem, heads as usize), Allowance::none(heads as usize));
+        Ok(Plain { image: image.to_vec(), problem, heads, allowance })
+    }
+
+    /// The allowance and the number of heads stay.
+    pub fn new_image(&mut self, image: &[u8], made_len: usize) -> Result<(), Number> {
+        let problem = read_image(image, made_len)?;
+        if self.waits() {
+            return Err(19);
+        }
+        self.heads = new_heads(&problem, self.heads.len());
+        (self.image, self.problem) = (image.to_vec(), problem);
+        Ok(())
     }
 
     /// Is a new image 19?
@@ -33,16 +84,39 @@ impl Plain {
         self.heads.iter().any(|head| head.waiting.is_some())
     }
 
+    /// What an ask costs.
+    pub fn sweeps(&self) -> u64 {
+        self.problem.sizes.iterations as u64
+    }
+
+    /// Is an ask of this head within what it has left of its own share?
+    pub fn is_within_own(&self, head: usize) -> bool {
+        self.sweeps() <= self.allowance.own[head]
+    }
+
+    pub fn period(&mut self, sweeps: u64) {
+        self.allowance = Allowance::begin(sweeps, self.heads.len());
+    }
+
+    pub fn done(&mut self, head: usize) {
+        let Allowance { common, own, .. } = &mut self.allowance;
+        *common += std::mem::take(&mut own[head]);
+    }
+
     /// Of a drive's own image and start no number is left to be tested.
     pub fn ask(&mut self, head: usize, [state, target]: [&[u8]; 2], answer_room: usize) -> Result<Vec<u8>, Number> {
         let inputs = [read_state(&self.problem, state)?, read_target(&self.problem, target)?].concat();
-        let head = &mut self.heads[head];
-        if answer_room != answer_len(head.start.len()) {
+        let start = &self.heads[head].start;
+        if answer_room != answer_len(start.len()) {
             return Err(15);
         }
-        let answer = answer(&self.problem, &inputs, &head.start);
+        if self.allowance.left(head) < self.sweeps() {
+            return Err(20);
+        }
+        let answer = answer(&self.problem, &inputs, start);
         let written = answer.bytes();
-        head.waiting = Some(answer);
+        self.allowance.take(head, self.sweeps());
+        self.heads[head].waiting = Some(answer);
         Ok(written)
     }
 
@@ -56,6 +130,17 @@ impl Plain {
         head.start = next_start(&self.problem, &answer.commands);
         Ok(bytes(&answer.commands[..motors]))
     }
+}
+
+/// What a make and a new image test alike.
+pub fn read_image(image: &[u8], made_len: usize) -> Result<Problem, Number> {
+    let problem = open(image, Rules::default())?;
+    if made_len == MADE_LEN { Ok(problem) } else { Err(15) }
+}
+
+fn new_heads(problem: &Problem, heads: usize) -> Vec<Head> {
+    let head = |_| Head { start: vec![0; problem.sizes.commands()], waiting: None };
+    (0..heads).map(head).collect()
 }
 
 /// Each motor's command of the step behind, that of the last step at the last, before the limits hold it.
@@ -72,14 +157,17 @@ pub fn next_start(problem: &Problem, commands: &[i64]) -> Vec<i64> {
 }
 
 /// What was called since the last accepted make or new image, wherever it counts for a head.
-#[derive(Debug, PartialEq, Eq)]
+#[derive(Clone, Debug, PartialEq, Eq)]
 pub enum Event {
     /// An accepted ask, with its commands.
     Ask(Vec<i64>),
     Commit,
-    /// A make, a new image, an ask or a commit of this head, or one of no head.
+    /// A period began, or the head said that it is done.
+    Period,
+    Done,
+    /// A make, a new image, a call of this head, or one of no head.
     Refused(Kind, Number),
-    /// An ask or a commit of the other head, refused or not.
+    /// A call of another head, refused or not.
     OtherHead(Kind, Number),
     /// An accepted ask of another drive.
     Elsewhere,

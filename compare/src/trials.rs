@@ -10,7 +10,7 @@ use crate::cases::{self, Rest};
 use crate::distance::distance;
 use crate::double::{self, Rounding};
 use crate::draft::Draft;
-use crate::drive::{Call, Kind, Outcome};
+use crate::drive::{Call, Kind, Outcome, Reference};
 use crate::economies::{self, Tables};
 use crate::former::{Former, Without};
 use crate::generate::{self, Plan, SolveCase};
@@ -20,7 +20,8 @@ use crate::image::{
     top, words,
 };
 use crate::label;
-use crate::made::{ANSWER, HEADS, IMAGE, IMAGE_ROOM, MADE_LEN, START, WAITS, answer_part, head_part, start_part};
+use crate::made::{ANSWER, COMMON, COUNT, HEADS, IMAGE, IMAGE_ROOM, MADE_LEN, OWN, START, WAITS};
+use crate::made::{answer_part, head_part, own_part, start_part};
 use crate::optimum::Optimum;
 use crate::page::{self, PAGE_LINE};
 use crate::process::Program;
@@ -60,7 +61,8 @@ pub fn groups(count: u64, has_conversions: bool, work: &Path) -> Vec<Group> {
         group("optimum", count / 25, optimum),
         group("rest", count / 100, rest),
         group("former", count / 50, former),
-        group("runs", count / 10, runs::trial),
+        group("periods", 4 * 256, runs::every_period),
+        group("runs", count / 5, runs::trial),
     ];
     if has_conversions {
         let formats = formats().len() as u64;
@@ -81,7 +83,13 @@ pub fn groups(count: u64, has_conversions: bool, work: &Path) -> Vec<Group> {
 
 /// The cases, and the economies that are to be found on them.
 fn groups_of_tables() -> [Group; 2] {
-    let tables = Rc::new(Tables { cases: cases::table(), at_rest: cases::at_rest(), scripts: cases::scripts() });
+    let right = Reference { rules: Rules::default() };
+    let scripts = cases::scripts().into_iter().map(|script| {
+        let answers = cases::answers(&right, &script);
+        (script, answers)
+    });
+    let scripts = scripts.collect();
+    let tables = Rc::new(Tables { cases: cases::table(), at_rest: cases::at_rest(), scripts });
     let count = tables.cases.len() + tables.at_rest.len() + tables.scripts.len();
     let lent = tables.clone();
     let case: Trial = Box::new(move |harness, index, _| case(harness, &lent, index as usize));
@@ -97,7 +105,7 @@ fn case(harness: &mut Harness, tables: &Tables, index: usize) {
     let Tables { cases, at_rest, scripts } = tables;
     match cases.iter().chain(at_rest).nth(index) {
         Some(case) => cases::run(harness, case),
-        None => cases::run_script(harness, &scripts[index - cases.len() - at_rest.len()]),
+        None => cases::run_script(harness, &scripts[index - cases.len() - at_rest.len()].0),
     }
 }
 
@@ -251,7 +259,8 @@ fn damage(harness: &mut Harness, index: u64, _: &mut Random) {
         index -= image.len();
         if index < MADE_LEN {
             let (other, _) = &victims[(i + 1) % victims.len()];
-            return runs::damage(harness, draft, other, index);
+            // Two, three or four heads.
+            return runs::damage(harness, [draft, other], 2 + i % 3, index);
         }
         index -= MADE_LEN;
     }
@@ -852,7 +861,8 @@ fn rests_agree(harness: &mut Harness) {
     }
 }
 
-/// A made drive has room for the image and for each head's start and answer of the largest sizes, and no byte more.
+/// A made drive has room for the image and for each head's start and answer of the largest sizes, then a word each for
+/// the number of heads, the common sweeps and each head's own, and no byte more.
 fn parts_agree(harness: &mut Harness) {
     let sizes = Sizes { motors: 4, steps: 4, states: 12, targets: 4, ..cases::sample().sizes };
     let head = |head: usize| {
@@ -860,8 +870,11 @@ fn parts_agree(harness: &mut Harness) {
             && ANSWER[head] == start_part(head, &sizes).end
             && head_part(head) == (WAITS[head]..answer_part(head, &sizes).end)
     };
+    let heads: Vec<usize> = (0..HEADS).map(|head| head_part(head).end).collect();
+    let owns: Vec<usize> = (0..HEADS).map(|head| own_part(head).end).collect();
     let holds = IMAGE_ROOM == (IMAGE..IMAGE + sizes.image_bytes())
-        && [IMAGE_ROOM.end, head_part(0).end, head_part(1).end] == [WAITS[0], WAITS[1], MADE_LEN]
+        && (IMAGE_ROOM.end, heads) == (WAITS[0], [&WAITS[1..], &[COUNT]].concat())
+        && (COUNT + 4, COMMON + 4, owns) == (COMMON, OWN[0], [&OWN[1..], &[MADE_LEN]].concat())
         && (0..HEADS).all(head);
     harness.check(holds, || "  the parts of a made drive do not follow each other".to_string());
 }

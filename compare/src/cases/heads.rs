@@ -1,12 +1,12 @@
-//! The cases of request 10: scripts of both heads' calls, and of new images. From zero S answers −18 for state 10 and
-//! 17 for −10, as in the scripts of request 9; each script is run with the heads exchanged too.
+//! The cases of request 10: scripts of both heads' calls, with sweeps enough, and of new images. From zero S answers −18
+//! for state 10 and 17 for −10, as in the scripts of request 9; each script is run with the heads exchanged too.
 
 use super::made::{FOUR_ASKED, FOUR_MOVED, ask_largest, commit_largest, largest, refused_images, state_of};
 use super::script::Script;
 use super::{motors_and_steps, sample, with_target};
 use crate::draft::Draft;
 use crate::image::{COST, GAIN, words};
-use crate::made::{ANSWER, IMAGE, MADE_LEN, START, WAITS};
+use crate::made::{ANSWER, COUNT, IMAGE, MADE_LEN, START, WAITS};
 
 pub fn scripts() -> Vec<Script> {
     let heads = [pen_and_knife(), of_each(), in_turns(), refused_beside(), other_sizes(), in_bytes(), no_heads()];
@@ -217,24 +217,28 @@ fn other_sizes() -> Vec<Script> {
     ]
 }
 
-/// The whole drive: head 0 at 2280, 2284 and 2348, and head 1 at 2484, 2488 and 2552.
+/// The whole drive: head 0 at 2280, 2284 and 2348, and head 1 at 2484, 2488 and 2552. Of 65535 sweeps each of two heads
+/// has 32767, and an ask costs 3.
 fn in_bytes() -> Vec<Script> {
     let image: &[i64] = &[1, 1, 1, 4, 8, 3, 0, 0, 8, 16, -20, 20, 0, 10];
     let (length, first, second): (&[i64], &[i64], &[i64]) = (&[56], &[-18, 3, 0, 2], &[17, 3, 0, 3]);
-    let with = |script: Script, parts: &[(usize, &[i64])]| script.whole(&[&[(0, length), (4, image)], parts].concat());
-    let script = with(s("the bytes of both heads"), &[]).head(1).ask(&[-10], &[17, 3], 3);
-    let script = with(script, &[(2484, &[1]), (2552, second)]).head(0).ask(&[10], &[-18, 3], 2);
-    let script = with(script, &[(2280, &[1]), (2348, first), (2484, &[1]), (2552, second)]).head(1);
-    let script = with(script.commit(&[17], &[17]), &[(2280, &[1]), (2348, first), (2488, &[17]), (2552, second)]);
-    let script = script.head(0).commit(&[-18], &[-18]);
-    let script = with(script, &[(2284, &[-18]), (2348, first), (2488, &[17]), (2552, second)]);
-    vec![script.new_image(&sample()).whole(&[(0, length), (4, image)])]
+    let with = |script: Script, own: [i64; 2], parts: &[(usize, &[i64])]| {
+        script.whole(&[&[(0, length), (4, image), (3096, &[2, 1, own[0], own[1]])], parts].concat())
+    };
+    let (unused, one, both) = ([32767, 32767], [32767, 32764], [32764, 32764]);
+    let script = with(s("the bytes of both heads"), unused, &[]).head(1).ask(&[-10], &[17, 3], 3);
+    let script = with(script, one, &[(2484, &[1]), (2552, second)]).head(0).ask(&[10], &[-18, 3], 2);
+    let script = with(script, both, &[(2280, &[1]), (2348, first), (2484, &[1]), (2552, second)]).head(1);
+    let parts: [(usize, &[i64]); 4] = [(2280, &[1]), (2348, first), (2488, &[17]), (2552, second)];
+    let script = with(script.commit(&[17], &[17]), both, &parts).head(0).commit(&[-18], &[-18]);
+    let script = with(script, both, &[(2284, &[-18]), (2348, first), (2488, &[17]), (2552, second)]);
+    vec![with(script.new_image(&sample()), both, &[])]
 }
 
 /// Heads that no drive has, some of which are 0 or 1 in fewer bits.
-fn no_head_numbers() -> impl Iterator<Item = u32> {
+pub fn no_head_numbers() -> impl Iterator<Item = u32> {
     let edges = [8, 16, 24, 31].map(|bits| 1 << bits).into_iter();
-    [2, 3, 4].into_iter().chain(edges.flat_map(|edge| [edge - 1, edge, edge + 1])).chain([u32::MAX - 1, u32::MAX])
+    [4, 5, 6].into_iter().chain(edges.flat_map(|edge| [edge - 1, edge, edge + 1])).chain([u32::MAX - 1, u32::MAX])
 }
 
 /// 3 before all else: the drive's length, the held image, the other buffers and 18.
@@ -249,7 +253,7 @@ fn no_heads() -> Vec<Script> {
         script.no_commit(3).length(2484).no_commit(3).length(MADE_LEN + 1)
     });
     let new = each(s("other heads of a new drive"), |script| script.no_commit(3).no_commit(3).room(0).no_ask(&[10], 3));
-    let zeros = s("other heads of a drive of zeros").put(0, &[0; MADE_LEN]);
+    let zeros = s("other heads of a drive of zeros").put(0, &[0; MADE_LEN]).put_word(COUNT, 2);
     let zeros = each(zeros, |script| script.no_commit(3).no_ask(&[10], 3));
     let unmade = each(Script::new("other heads of no drive"), |script| script.no_commit(3).length(0).no_ask(&[], 3));
     let beyond = s("other heads beside a start beyond its limit").put_word(START[0], 21).put_word(START[1], 21);
@@ -274,8 +278,14 @@ fn new_images() -> Vec<Script> {
         again(s("a new image behind head 0").ask(&[10], &[-18, 3], 2).commit(&[-18], &[-18]).new_image(&sample())),
         again(both_started("two new images").new_image(&other_table()).new_image(&sample())),
         again(s("a new image behind refused asks").no_ask(&[11], 13).head(1).no_ask(&[11], 13).new_image(&sample())),
-        // All of the drive is zeros, and no call has made it.
-        again(Script::new("a new image for a drive of zeros").put(0, &[0; MADE_LEN]).new_image(&sample())),
+        // All of the drive is zeros but for its heads, and no call has made it.
+        again(
+            Script::new("a new image for a drive of zeros")
+                .put(0, &[0; MADE_LEN])
+                .put_word(COUNT, 2)
+                .new_image(&sample())
+                .period(65535),
+        ),
         both_started("other tables for both")
             .new_image(&other_table())
             .ask(&[10], &[-9, 3], 1)
@@ -539,7 +549,10 @@ fn makes() -> Vec<Script> {
             .head(0)
             .commit(&[-18], &[-18]),
         // Of a drive that was just made, a new image is the same.
-        s("a new image as made").whole(&[(0, &[56]), (4, &words(&sample().image()))]).new_image(&sample()),
+        s("a new image as made")
+            .whole(&[(0, &[56]), (4, &words(&sample().image())), (3096, &[2, 1, 32767, 32767])])
+            .new_image(&sample())
+            .whole(&[(0, &[56]), (4, &words(&sample().image())), (3096, &[2, 1, 32767, 32767])]),
     ]
 }
 

@@ -1,11 +1,11 @@
-//! The cases of request 9: scripts of one head's calls. As in S a sweep makes z into half of z, rounded down, less h,
+//! The cases of request 9: scripts of one head's calls, with sweeps enough. As in S a sweep makes z into half of z, rounded down, less h,
 //! unless the script says otherwise, and the bounds are 1, 2, 3 whatever the start.
 
 use super::script::Script;
 use super::{coupled, motors_and_steps, sample, two_steps, uncoupled, with_steps, with_target};
 use crate::draft::Draft;
 use crate::image::{COST, GAIN, HEADER_WORDS, HIGH, LOW, MOMENTUM, Number, STATE_LIMIT, Sizes, bytes, words};
-use crate::made::{self, IMAGE, MADE_LEN};
+use crate::made::{self, COUNT, IMAGE, MADE_LEN};
 
 /// Where the parts of head 0 begin.
 const WAITS: usize = made::WAITS[0];
@@ -56,18 +56,23 @@ fn of_sample() -> Vec<Script> {
     ]
 }
 
+/// The number of heads and the sweeps of a drive with the most sweeps, and behind one ask of 3 sweeps, and two.
+const UNUSED: (usize, &[i64]) = (3096, &[2, 1, 32767, 32767]);
+const USED: (usize, &[i64]) = (3096, &[2, 1, 32764, 32767]);
+const USED_TWICE: (usize, &[i64]) = (3096, &[2, 1, 32761, 32767]);
+
 /// The whole drive: 14 words of S, and 38 of two motors and two steps.
 fn in_bytes() -> Vec<Script> {
     let image: &[i64] = &[1, 1, 1, 4, 8, 3, 0, 0, 8, 16, -20, 20, 0, 10];
     let (length, answer): (&[i64], &[i64]) = (&[56], &[-18, 3, 0, 2]);
     let s = Script::of("the bytes of S", &sample())
-        .whole(&[(0, length), (4, image)])
+        .whole(&[(0, length), (4, image), UNUSED])
         .ask(&[10], &[-18, 3], 2)
-        .whole(&[(0, length), (4, image), (2280, &[1]), (2348, answer)])
+        .whole(&[(0, length), (4, image), (2280, &[1]), (2348, answer), USED])
         .commit(&[-18], &[-18])
-        .whole(&[(0, length), (4, image), (2284, &[-18]), (2348, answer)])
+        .whole(&[(0, length), (4, image), (2284, &[-18]), (2348, answer), USED])
         .ask(&[10], &[-20, 3], 0)
-        .whole(&[(0, length), (4, image), (2280, &[1]), (2284, &[-18]), (2348, &[-20, 3, 0, 0])]);
+        .whole(&[(0, length), (4, image), (2280, &[1]), (2284, &[-18]), (2348, &[-20, 3, 0, 0]), USED_TWICE]);
     let image: &[i64] = &[
         &[2, 2, 1, 4, 8, 3, 0, 0, 8, 0, 0, 0, 0, 8, 0, 0, 0, 0, 8, 0, 0, 0, 0, 8][..],
         &[16, 16, 16, 16, -20, -4, -2, -20, 20, 2, 3, 1, 0, 10],
@@ -75,13 +80,13 @@ fn in_bytes() -> Vec<Script> {
     .concat();
     let answer: &[i64] = &[&FOUR_ASKED[..], &[0, 2]].concat();
     let four = Script::of("the bytes of four commands", &motors_and_steps())
-        .whole(&[(0, &[152]), (4, image)])
+        .whole(&[(0, &[152]), (4, image), UNUSED])
         .ask(&[10], &FOUR_ASKED, 2)
-        .whole(&[(0, &[152]), (4, image), (2280, &[1]), (2348, answer)])
+        .whole(&[(0, &[152]), (4, image), (2280, &[1]), (2348, answer), USED])
         .commit(&[-18, -4], &FOUR_MOVED)
-        .whole(&[(0, &[152]), (4, image), (2284, &FOUR_MOVED), (2348, answer)]);
+        .whole(&[(0, &[152]), (4, image), (2284, &FOUR_MOVED), (2348, answer), USED]);
     // All that the former drive had is gone.
-    let again = four.make(&sample()).whole(&[(0, length), (4, &words(&sample().image()))]);
+    let again = four.make(&sample()).whole(&[(0, length), (4, &words(&sample().image())), UNUSED]);
     vec![s, again]
 }
 
@@ -109,8 +114,8 @@ fn refused() -> Vec<Script> {
     ]
 }
 
-/// 4nu bytes for a commit, 8n + 8 for an ask, and 2688 for the drive, which is tested before all else of these two. It
-/// was 2484 before request 10.
+/// 4nu bytes for a commit, 8n + 8 for an ask, and 3120 for the drive, which is tested before all else of these two. It
+/// was 2484 before request 10, and 2688 before request 11.
 fn lengths() -> Vec<Script> {
     let s = Script::of("lengths of S", &sample()).ask(&[10], &[-18, 3], 2);
     let s = [0, 1, 3, 5, 8, 16].into_iter().fold(s, |script, room| script.no_commit(15).room(room));
@@ -120,8 +125,9 @@ fn lengths() -> Vec<Script> {
     let four = [0, 4, 7, 9, 12, 16, 40].into_iter().fold(four, |script, room| script.no_commit(15).room(room));
     let four = [16, 24, 32, 36, 39, 41, 48].into_iter().fold(four, |script, room| script.no_ask(&[10], 15).room(room));
     let drive = Script::of("lengths of a drive", &sample()).ask(&[10], &[-18, 3], 2);
-    let others = [0, 1, 3, 4, 60, WAITS, START, ANSWER, 2484, MADE_LEN - 4, MADE_LEN - 1, MADE_LEN + 1, MADE_LEN + 4];
-    let drive = others.into_iter().fold(drive, |script, length| {
+    let parts = [0, 1, 3, 4, 60, WAITS, START, ANSWER, 2484, 2688, 3096, 3100, 3104];
+    let beside = [MADE_LEN - 4, MADE_LEN - 1, MADE_LEN + 1, MADE_LEN + 4];
+    let drive = parts.into_iter().chain(beside).fold(drive, |script, length| {
         let script = script.no_ask(&[10], 15).length(length).no_ask(&[11], 15).to(&[0]).room(0).length(length);
         let script = script.no_commit(15).length(length).no_commit(15).room(8).length(length);
         script.no_make(&sample().image(), 15).length(length)
@@ -134,7 +140,14 @@ fn lengths() -> Vec<Script> {
         drive.commit(&[-18], &[-18]),
         short,
         Script::new("no drive").no_commit(3).no_ask(&[10], 3),
-        Script::new("a drive of zeros").put(0, &[0; MADE_LEN]).no_commit(6).no_ask(&[10], 6),
+        // Without a head, and then with some.
+        Script::new("a drive of zeros")
+            .put(0, &[0; MADE_LEN])
+            .no_commit(3)
+            .no_ask(&[10], 3)
+            .put_word(COUNT, 2)
+            .no_commit(6)
+            .no_ask(&[10], 6),
     ]
 }
 

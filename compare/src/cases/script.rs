@@ -2,10 +2,10 @@
 
 use super::sample;
 use crate::draft::Draft;
-use crate::drive::{Act, Drive};
+use crate::drive::{Act, Drive, Kind};
 use crate::harness::Harness;
 use crate::image::{Number, Sizes, bytes, words};
-use crate::made::{HEADS, MADE_LEN, START, WAITS, head_part};
+use crate::made::{COMMON, COUNT, HEADS, MADE_LEN, START, head_part, own_part};
 use crate::runs::Run;
 use crate::solve::answer_len;
 
@@ -17,6 +17,8 @@ pub struct Script {
     drive: usize,
     head: u32,
     sizes: [Sizes; 2],
+    /// The fewest heads that a drive is made with.
+    fewest: Option<u32>,
 }
 
 struct Step {
@@ -25,11 +27,25 @@ struct Step {
     act: Option<Act>,
     number: Number,
     written: Option<Vec<u8>>,
-    /// The starts that the drive then holds, and all of its bytes, where they are worked out.
+    /// The starts that the drive then holds, its bytes, all or those before the number of heads, and the common sweeps
+    /// and what each head has left, where they are worked out.
     starts: [Option<Vec<i64>>; HEADS],
     whole: Option<Vec<u8>>,
-    /// What is written otherwise, and where.
-    put: (usize, Vec<u8>),
+    left: Option<Vec<i64>>,
+    put: Put,
+}
+
+/// What is written otherwise, and where.
+#[derive(Default)]
+struct Put {
+    at: usize,
+    bytes: Vec<u8>,
+}
+
+impl Put {
+    fn end(&self) -> usize {
+        self.at + self.bytes.len()
+    }
 }
 
 /// What no call has written.
@@ -39,12 +55,18 @@ fn unmade() -> Vec<u8> {
 
 impl Script {
     pub fn new(name: &str) -> Script {
-        Script { name: name.to_string(), steps: Vec::new(), drive: 0, head: 0, sizes: [sample().sizes; 2] }
+        let sizes = [sample().sizes; 2];
+        Script { name: name.to_string(), steps: Vec::new(), drive: 0, head: 0, sizes, fewest: None }
     }
 
-    /// A drive that was just made.
+    /// A drive that was just made, of two heads and with the most sweeps.
     pub fn of(name: &str, draft: &Draft) -> Script {
         Script::new(name).make(draft)
+    }
+
+    /// A drive that was just made, of so many heads and without a period.
+    pub fn with(name: &str, heads: u32, draft: &Draft) -> Script {
+        Script::new(name).make_of(heads, draft)
     }
 
     fn sizes(&self) -> &Sizes {
@@ -52,8 +74,8 @@ impl Script {
     }
 
     fn push(mut self, act: Option<Act>, number: Number) -> Script {
-        let (drive, put) = (self.drive, (0, Vec::new()));
-        self.steps.push(Step { drive, act, number, written: None, starts: Default::default(), whole: None, put });
+        let (drive, starts, put) = (self.drive, Default::default(), Put::default());
+        self.steps.push(Step { drive, act, number, written: None, starts, whole: None, left: None, put });
         self
     }
 
@@ -65,28 +87,55 @@ impl Script {
         self.last().act.as_mut().expect("the last step is a call")
     }
 
+    /// Of two heads, and the first period has so many sweeps that no ask of requests 9 and 10 falls short.
     pub fn make(self, draft: &Draft) -> Script {
-        self.image(draft, Act::make)
+        self.make_of(2, draft).period(65535)
     }
 
+    /// Before the first period there are no sweeps.
+    pub fn make_of(mut self, heads: u32, draft: &Draft) -> Script {
+        self.fewest = self.fewest.or(Some(heads)).min(Some(heads));
+        self.image(draft, |image| Act::make(image, heads), &[(COUNT, &[heads.into()])])
+    }
+
+    /// Number of heads and sweeps stay.
     pub fn new_image(self, draft: &Draft) -> Script {
-        self.image(draft, Act::new_image)
+        let mut script = self.image(draft, Act::new_image, &[]);
+        script.last().whole.as_mut().expect("it is worked out").truncate(COUNT);
+        script
     }
 
-    /// All bytes are then those of the image's length and of the image, and zeros.
-    fn image(mut self, draft: &Draft, act: fn(&[u8]) -> Act) -> Script {
+    /// All bytes are then those of the image's length and of the image, and zeros, but for these.
+    fn image(mut self, draft: &Draft, act: impl Fn(&[u8]) -> Act, others: &[(usize, &[i64])]) -> Script {
         self.sizes[self.drive] = draft.sizes;
         let image = draft.image();
         let script = self.push(Some(act(&image)), 0);
-        script.whole(&[(0, &[image.len() as i64]), (4, &words(&image))])
+        script.whole(&[&[(0, &[image.len() as i64][..]), (4, &words(&image))], others].concat())
     }
 
     pub fn no_make(self, image: &[u8], number: Number) -> Script {
-        self.push(Some(Act::make(image)), number)
+        self.push(Some(Act::make(image, 2)), number)
     }
 
     pub fn no_new_image(self, image: &[u8], number: Number) -> Script {
         self.push(Some(Act::new_image(image)), number)
+    }
+
+    pub fn period(self, sweeps: u16) -> Script {
+        self.no_period(sweeps, 0)
+    }
+
+    pub fn no_period(self, sweeps: u16, number: Number) -> Script {
+        self.push(Some(Act::period(sweeps)), number)
+    }
+
+    pub fn done(self) -> Script {
+        self.no_done(0)
+    }
+
+    pub fn no_done(self, number: Number) -> Script {
+        let act = Act::done(self.head);
+        self.push(Some(act), number)
     }
 
     /// The answer's commands and bounds, and D.
@@ -131,11 +180,23 @@ impl Script {
 
     /// The bytes behind the last call: words at their places, and zeros.
     pub fn whole(mut self, parts: &[(usize, &[i64])]) -> Script {
-        let mut whole = vec![0; 2688];
+        let mut whole = vec![0; 3120];
         for &(at, part) in parts {
             whole[at..at + 4 * part.len()].copy_from_slice(&bytes(part));
         }
         self.last().whole = Some(whole);
+        self
+    }
+
+    /// The common sweeps behind the last call, and what each head made has left.
+    pub fn left(mut self, common: i64, own: &[i64]) -> Script {
+        self.last().left = Some([&[common], own].concat());
+        self
+    }
+
+    /// The heads of the last call, which is a make.
+    pub fn heads(mut self, heads: u32) -> Script {
+        self.act().number = Some(heads);
         self
     }
 
@@ -165,7 +226,7 @@ impl Script {
 
     pub fn put(self, at: usize, bytes: &[u8]) -> Script {
         let mut script = self.push(None, 0);
-        script.last().put = (at, bytes.to_vec());
+        script.last().put = Put { at, bytes: bytes.to_vec() };
         script
     }
 
@@ -173,29 +234,79 @@ impl Script {
         self.put(at, &bytes(&[word]))
     }
 
-    /// The same with each head in the place of the other.
-    pub fn exchanged(mut self) -> Script {
-        self.name += ", the heads exchanged";
+    /// It tells the heads apart by more than their calls.
+    pub fn fixed(mut self) -> Script {
+        self.fewest = Some(1);
+        self
+    }
+
+    /// The same with each head that every drive has in the place of the next, and the last in that of the first.
+    pub fn turned(self) -> Option<Script> {
+        let heads = self.fewest.map_or(2, |heads| heads as usize);
+        let places = [0, 1, 2, 3].map(|head| if head < heads { (head + 1) % heads } else { head });
+        (heads > 1).then(|| self.placed("the heads turned", places))
+    }
+
+    /// The same on drives of four heads, head 3 being in the place of head 0 and head 2 in that of head 1. Not so where
+    /// a head is one too many, or the number of heads something else's.
+    pub fn of_four(mut self) -> Option<Script> {
         for step in &mut self.steps {
-            if let Some(head @ (Some(0) | Some(1))) = step.act.as_mut().map(|act| &mut act.head) {
-                *head = head.map(|head| 1 - head);
+            let act = step.act.as_mut();
+            if act.as_ref().is_some_and(|act| matches!(act.head(), Some(2 | 3))) || step.put.end() > COUNT {
+                return None;
             }
-            step.starts.reverse();
-            step.whole = step.whole.as_deref().map(exchange);
-            let (at, bytes) = &mut step.put;
-            if bytes.len() == MADE_LEN {
-                *bytes = exchange(bytes);
+            if let Some(act) = act.filter(|act| act.kind == Kind::Make) {
+                act.number = Some(4);
             }
-            let part = (0..HEADS).find(|&head| head_part(head).contains(at));
-            *at = part.map_or(*at, |head| *at - WAITS[head] + WAITS[1 - head]);
+            step.whole.iter_mut().for_each(|whole| whole.truncate(COUNT));
         }
+        Some(self.placed("of four heads", [3, 2, 1, 0]))
+    }
+
+    fn placed(mut self, name: &str, places: [usize; HEADS]) -> Script {
+        self.name += &format!(", {name}");
+        self.steps.iter_mut().for_each(|step| step.place(places));
         self
     }
 }
 
-/// A drive with the heads' parts in each other's place.
-fn exchange(made: &[u8]) -> Vec<u8> {
-    [&made[..WAITS[0]], &made[head_part(1)], &made[head_part(0)]].concat()
+impl Step {
+    /// Gives what is said of each head to another.
+    fn place(&mut self, places: [usize; HEADS]) {
+        if let Some(act) = self.act.as_mut().filter(|act| act.kind.has_head()) {
+            let place = |head: u32| places.get(head as usize).map_or(head, |&place| place as u32);
+            act.number = act.number.map(place);
+        }
+        let starts = std::mem::take(&mut self.starts);
+        starts.into_iter().zip(places).for_each(|(start, place)| self.starts[place] = start);
+        self.whole = self.whole.as_deref().map(|whole| placed(whole, places));
+        self.left = self.left.as_deref().map(|left| {
+            let mut new = left.to_vec();
+            (1..left.len()).for_each(|i| new[1 + places[i - 1]] = left[i]);
+            new
+        });
+        let Put { at, bytes } = &mut self.put;
+        if bytes.len() == MADE_LEN {
+            *bytes = placed(bytes, places);
+        }
+        for part in [head_part, own_part] {
+            if let Some(head) = (0..HEADS).find(|&head| part(head).contains(at)) {
+                *at = *at - part(head).start + part(places[head]).start;
+            }
+        }
+    }
+}
+
+/// The bytes of a drive, all or those before the number of heads, with each head's in the place of another's.
+fn placed(made: &[u8], places: [usize; HEADS]) -> Vec<u8> {
+    let mut new = made.to_vec();
+    for (head, place) in places.into_iter().enumerate() {
+        new[head_part(place)].copy_from_slice(&made[head_part(head)]);
+        if made.len() == MADE_LEN {
+            new[own_part(place)].copy_from_slice(&made[own_part(head)]);
+        }
+    }
+    new
 }
 
 /// Runs a script, and holds each call to the script's own figures. A refused one leaves the drive.
@@ -204,7 +315,7 @@ pub fn run_script(harness: &mut Harness, script: &Script) {
     for (i, step) in script.steps.iter().enumerate() {
         let run = &mut drives[step.drive];
         let Some(act) = &step.act else {
-            run.put(step.put.0, &step.put.1);
+            run.put(step.put.at, &step.put.bytes);
             continue;
         };
         let before = run.made.clone();
@@ -217,19 +328,23 @@ pub fn run_script(harness: &mut Harness, script: &Script) {
             && outcome.written == step.written
             && (outcome.number == 0 || run.made == before)
             && (0..HEADS).all(has_start)
-            && step.whole.as_ref().is_none_or(|whole| run.made == *whole);
+            && step.whole.as_ref().is_none_or(|whole| run.made.starts_with(whole))
+            && step.left.as_ref().is_none_or(|left| run.made[COMMON..].starts_with(&bytes(left)));
         harness.check(holds, || format!("  the script's call {}: {}", i + 1, script.name));
     }
 }
 
-/// What a drive's calls answer in a script, without a look at the made drives' bytes: numbers and output buffers.
-pub fn answers(drive: &dyn Drive, script: &Script) -> Vec<(Number, Vec<u8>)> {
+/// Numbers and output buffers.
+pub type Answers = Vec<(Number, Vec<u8>)>;
+
+/// What a drive's calls answer in a script, without a look at the made drives' bytes.
+pub fn answers(drive: &dyn Drive, script: &Script) -> Answers {
     let mut drives = [unmade(), unmade()];
     let mut answers = Vec::new();
     for step in &script.steps {
         let made = &mut drives[step.drive];
         let Some(act) = &step.act else {
-            made[step.put.0..step.put.0 + step.put.1.len()].copy_from_slice(&step.put.1);
+            made[step.put.at..step.put.end()].copy_from_slice(&step.put.bytes);
             continue;
         };
         let call = act.on(made);

@@ -1,27 +1,32 @@
-//! The false economies of requests 9 and 10: other starts and commands, an answer that waits too long or too short,
-//! asks from elsewhere, and calls that test too much or too little; heads that are not apart, and new images.
+//! The false economies of requests 9 to 11: other starts and commands, an answer that waits too long or too short, asks
+//! from elsewhere, and calls that test too much or too little; heads that are not apart, and new images; other numbers of
+//! heads, and sweeps that are dealt, taken or moved otherwise.
 
 mod calls;
 mod commits;
+mod counts;
+mod dones;
 mod heads;
 mod images;
+mod periods;
+mod sweeps;
 mod waiting;
 
 use std::ops::Range;
 
-use crate::cases::{Script, answers, run_script};
+use crate::cases::{Answers, Script, answers, run_script};
 use crate::drive::{Drive, Kind, Reference};
 use crate::harness::Harness;
 use crate::image::{HEADER_WORDS, Number, Sizes, bytes, words};
-use crate::made::{self, HEADS, Held, IMAGE, IMAGE_ROOM, MADE_LEN, START, WAITS};
-use crate::made::{commands_part, put_waits, start_part, waits, word_at};
+use crate::made::{self, COUNT, HEADS, Held, IMAGE, IMAGE_ROOM, MADE_LEN, START, WAITS};
+use crate::made::{commands_part, heads_made, put_waits, put_word, start_part, waits, word_at};
 use crate::rules::Rules;
 
 /// A call as the papers have it, for a drive that departs from it.
 struct Done<'a> {
     kind: Kind,
-    /// The head, where the call has one; it, and the other.
     numbers: &'a [u64],
+    /// Where the call has a head, it and another.
     head: usize,
     other: usize,
     inputs: &'a [&'a [u8]],
@@ -50,9 +55,30 @@ impl Done<'_> {
         self.held().limits(&self.sizes())
     }
 
-    /// Is it an ask or a commit of a head that no drive has?
+    /// Is it a call of a head that no drive has?
     fn is_of_no_head(&self) -> bool {
-        self.numbers.iter().any(|&head| head >= HEADS as u64)
+        self.kind.has_head() && self.head >= HEADS
+    }
+
+    /// A word of the drive as it was, and another in its place.
+    fn was(&self, at: usize) -> u32 {
+        word_at(self.before, at)
+    }
+
+    fn put(&mut self, at: usize, word: u32) {
+        put_word(self.made, at, word);
+    }
+
+    /// Those that the drive was made with.
+    fn heads(&self) -> usize {
+        heads_made(self.before)
+    }
+
+    /// The call once more with another number of heads in the drive, which it then has not.
+    fn with_count(&mut self, count: u32) -> Number {
+        let number = self.again(|made| put_word(made, COUNT, count));
+        self.keep(made::count_part());
+        number
     }
 
     /// Did an answer of the call's head wait?
@@ -155,7 +181,7 @@ impl Drive for Economy {
     fn call_made(&self, kind: Kind, numbers: &[u64], made: &mut [u8], inputs: &[&[u8]], out: &mut [u8]) -> Number {
         let before = made.to_vec();
         let number = made::call(kind, numbers, made, inputs, out);
-        let head = numbers.first().map_or(0, |&head| head as usize);
+        let head = if kind.has_head() { numbers[0] as usize } else { 0 };
         let other = usize::from(head == 0);
         (self.spoil)(&mut Done { kind, numbers, head, other, inputs, before: &before, number, made, out })
     }
@@ -163,17 +189,16 @@ impl Drive for Economy {
 
 impl Economy {
     /// The calls that differ in the scripts, or where it is to be found by its bytes the comparisons that fail.
-    pub fn differences(&self, scripts: &[Script]) -> u64 {
+    pub fn differences(&self, scripts: &[(Script, Answers)]) -> u64 {
         if self.by_answers {
-            let right = Reference { rules: Rules::default() };
-            let differ = |script| {
-                let pairs = answers(self, script).into_iter().zip(answers(&right, script));
-                pairs.filter(|(found, right)| found != right).count() as u64
+            let differ = |(script, right): &(Script, Answers)| {
+                let found = answers(self, script);
+                found.iter().zip(right).filter(|(found, right)| found != right).count() as u64
             };
             return scripts.iter().map(differ).sum();
         }
         let mut scratch = Harness::quiet(self);
-        scripts.iter().for_each(|script| run_script(&mut scratch, script));
+        scripts.iter().for_each(|(script, _)| run_script(&mut scratch, script));
         scratch.failed
     }
 }
@@ -213,9 +238,9 @@ fn clear_answers(done: &mut Done) {
 /// The numbers of an image that is refused.
 const IMAGE_NUMBERS: &[Number] = &[6, 3, 5, 7, 17, 8, 9, 10, 11, 12];
 
-/// Takes a drive of one head, as it was before request 10.
+/// Takes a drive of one head, as it was before request 10, or of two, as before request 11.
 fn former_length(done: &mut Done) -> Number {
-    if done.before.len() == 2484 { 0 } else { 15 }
+    if matches!(done.before.len(), 2484 | 2688) { 0 } else { 15 }
 }
 
 /// A drive that does something more behind an accepted call.
@@ -228,16 +253,22 @@ fn behind(name: &str, kind: Kind, spoil: impl Fn(&mut Done) + 'static) -> Econom
     })
 }
 
-/// The same at head 1 alone.
-fn at_head_1(economy: Economy) -> Economy {
+/// The same at one head alone.
+fn at_head(head: u64, economy: Economy) -> Economy {
     let Economy { name, spoil, by_answers } = economy;
-    let at_head_1: Spoil = Box::new(move |done| if done.numbers == [1] { spoil(done) } else { done.number });
-    Economy { name: format!("{name}, at head 1 alone"), spoil: at_head_1, by_answers }
+    let at_head: Spoil = Box::new(move |done| {
+        let is_such = done.kind.has_head() && done.numbers == [head];
+        if is_such { spoil(done) } else { done.number }
+    });
+    Economy { name: format!("{name}, at head {head} alone"), spoil: at_head, by_answers }
 }
 
 pub fn economies() -> Vec<Economy> {
     let of_request_9 = [commits::economies(), waiting::economies(), calls::economies()];
     let of_request_10 = [heads::economies(), images::economies()];
-    let at_head_1 = commits::economies().into_iter().map(at_head_1);
-    of_request_9.into_iter().chain(of_request_10).flatten().chain(at_head_1).collect()
+    let of_request_11 = [counts::economies(), periods::economies(), sweeps::economies(), dones::economies()];
+    let at_heads =
+        [1, 3].into_iter().flat_map(|head| commits::economies().into_iter().map(move |it| at_head(head, it)));
+    let all = of_request_9.into_iter().chain(of_request_10).chain(of_request_11).flatten();
+    all.chain(at_heads).collect()
 }

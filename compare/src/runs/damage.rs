@@ -5,15 +5,15 @@ use crate::drive::Act;
 use crate::generate::{self, Plan};
 use crate::harness::Harness;
 use crate::image::{HEADER_WORDS, HIGH, LOW, Sizes, bytes};
-use crate::made::{ANSWER, HEADS, IMAGE, IMAGE_ROOM, MADE_LEN, START};
-use crate::made::{answer_part, put_waits, start_part, waits_part, word_at};
+use crate::made::{ANSWER, COMMON, COUNT, HEADS, IMAGE, IMAGE_ROOM, MADE_LEN, OWN, START};
+use crate::made::{answer_part, put_waits, put_word, start_part, waits_part, word_at};
 use crate::random::Random;
 use crate::solve::answer_len;
 
 /// The drive with something else in one of its parts, or in several.
 pub fn damaged(random: &mut Random, made: &[u8], draft: &Draft) -> Vec<u8> {
     let mut made = made.to_vec();
-    let (part, head) = (random.below(12), random.below(HEADS));
+    let (part, head) = (random.below(16), random.below(HEADS));
     // The length word of the largest image may say more than it.
     match if is_largest(draft) && random.one_in(3) { 0 } else { part } {
         0 => damage_length(random, &mut made),
@@ -32,6 +32,8 @@ pub fn damaged(random: &mut Random, made: &[u8], draft: &Draft) -> Vec<u8> {
         8 => made[IMAGE..IMAGE + 8].rotate_left(4),
         9 => random_behind(random, &mut made, IMAGE + 4 * HEADER_WORDS),
         10 => put_image(&mut made, &draft.image()),
+        11 | 12 => put_word(&mut made, COUNT, random.pick(&[0, 1, 2, 3, 4, 4, 5, 256, 257, 1 << 31, u32::MAX])),
+        13 | 14 => damage_sweeps(random, &mut made, head, draft),
         _ => damage_part(random, &mut made, head, &draft.sizes),
     }
     made
@@ -50,6 +52,27 @@ fn damage_length(random: &mut Random, made: &mut [u8]) {
     // The largest image has a length that every larger word stands for.
     let larger = length == room && random.one_in(2);
     made[..IMAGE].copy_from_slice(&if larger { u32::MAX } else { other }.to_be_bytes());
+}
+
+/// The common sweeps and those of a head, about what an ask costs, together at the end of 32 bits, or anywhere.
+fn damage_sweeps(random: &mut Random, made: &mut [u8], head: usize, draft: &Draft) {
+    let sweeps = draft.sizes.iterations as u32;
+    let part = random.below(sweeps as usize + 1) as u32;
+    let (any, beside) = (random.next() as u32, random.between(-2, 2) as u32);
+    let pairs = [
+        (part, sweeps - part),
+        (part, (sweeps - part).saturating_sub(1)),
+        (u32::MAX - part, part.wrapping_add(beside)),
+        (part, u32::MAX - part.wrapping_add(beside)),
+        (u32::MAX, u32::MAX),
+        (1 << 31, 1 << 31),
+        (any, any.wrapping_neg()),
+        (0, 65536),
+        (65536 + part, 0),
+    ];
+    let (own, common) = random.pick(&pairs);
+    put_word(made, OWN[head], own);
+    put_word(made, COMMON, common);
 }
 
 /// As far as it fits.
@@ -92,25 +115,35 @@ fn damage_part(random: &mut Random, made: &mut [u8], head: usize, sizes: &Sizes)
         waits_part(head),
         start_part(head, sizes),
         answer_part(head, sizes),
+        COUNT..MADE_LEN,
         0..MADE_LEN,
     ];
     let part = parts[random.below(parts.len())].clone();
     generate::damage(random, &mut made[part]);
 }
 
-/// A drive with both answers waiting, one byte of which is changed, to every value where the byte is in use: an ask and
-/// a commit of each head on it. And the same of one with both used up, for another image.
-pub fn trial(harness: &mut Harness, draft: &Draft, other: &Draft, index: usize) {
+/// A drive of some heads with all answers waiting, one byte of which is changed, to every value where the byte is in use:
+/// an ask and a commit of each head on it, one not made among them, and a done of each and a period. And the same of one
+/// with all used up, for another image.
+pub fn trial(harness: &mut Harness, [draft, other]: [&Draft; 2], heads: usize, index: usize) {
     let sizes = &draft.sizes;
-    let asks = [0, 1].map(|head| edge_ask(draft, head));
-    let commits = [0, 1].map(|head| Act::commit(head, 4 * sizes.motors));
-    let made = after(vec![0; MADE_LEN], &[Act::make(&draft.image())]);
+    let all = |act: fn(&Draft, u32) -> Act, heads: usize| (0..heads as u32).map(|head| act(draft, head)).collect();
+    let (asks, commits): (Vec<Act>, Vec<Act>) = (all(edge_ask, heads), all(edge_commit, heads));
+    let made = after(vec![0; MADE_LEN], &[Act::make(&draft.image(), heads as u32), Act::period(65535)]);
     let used_up = after(after(made, &asks), &commits);
-    let waiting = after(used_up.clone(), &asks);
+    // Behind an ask of each head its share is 1 short of another, and so the common part counts.
+    let short = (2 * heads * sizes.iterations - 1) as u16;
+    let waiting = after(after(used_up.clone(), &[Act::period(short)]), &asks);
+    let acts = [all(edge_ask, HEADS), all(edge_commit, HEADS)].concat();
+    let others = [all(|_, head| Act::done(head), HEADS), vec![Act::period(1000)]].concat();
     let image = Act::new_image(&other.image());
-    for value in values(&waiting, sizes, index) {
+    let values = values(&waiting, heads, sizes, index);
+    let first = *values.start();
+    for value in values {
         let with = |made: &[u8]| [&made[..index], &[value], &made[index + 1..]].concat();
-        for act in asks.iter().chain(&commits) {
+        // These do not heed what is before the words of request 11: one value is enough there.
+        let others = others.iter().filter(|_| index >= COUNT || value == first);
+        for act in acts.iter().chain(others) {
             harness.compare(&act.on(&with(&waiting)));
         }
         harness.compare(&image.on(&with(&used_up)));
@@ -118,18 +151,21 @@ pub fn trial(harness: &mut Harness, draft: &Draft, other: &Draft, index: usize) 
 }
 
 /// All values, or one other than the byte has where it is not in use.
-fn values(made: &[u8], sizes: &Sizes, index: usize) -> std::ops::RangeInclusive<u8> {
+fn values(made: &[u8], heads: usize, sizes: &Sizes, index: usize) -> std::ops::RangeInclusive<u8> {
     let of_head = |head| [waits_part(head), start_part(head, sizes), answer_part(head, sizes)];
-    let used = [of_head(0), of_head(1)].concat();
-    let all = (0..IMAGE + sizes.image_bytes()).contains(&index) || used.iter().any(|part| part.contains(&index));
-    if all { 0..=255 } else { !made[index]..=!made[index] }
+    let mut used = (0..heads).flat_map(of_head).chain([0..IMAGE + sizes.image_bytes(), COUNT..MADE_LEN]);
+    if used.any(|part| part.contains(&index)) { 0..=255 } else { !made[index]..=!made[index] }
 }
 
-/// Head 0 asks with all inputs at their highs, and head 1 at their lows.
+fn edge_commit(draft: &Draft, head: u32) -> Act {
+    Act::commit(head, 4 * draft.sizes.motors)
+}
+
+/// Heads 0 and 2 ask with all inputs at their highs, and heads 1 and 3 at their lows.
 fn edge_ask(draft: &Draft, head: u32) -> Act {
     let problem = draft.problem();
     let edge = |ranges: Vec<(i64, i64)>| {
-        let words: Vec<i64> = ranges.iter().map(|range| if head == 0 { range.1 } else { range.0 }).collect();
+        let words: Vec<i64> = ranges.iter().map(|range| if head % 2 == 0 { range.1 } else { range.0 }).collect();
         bytes(&words)
     };
     let (state, target) = (edge(problem.state_ranges()), edge(problem.target_ranges()));

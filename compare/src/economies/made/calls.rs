@@ -76,6 +76,7 @@ fn with_other_answers() -> Vec<Economy> {
 
 fn with_other_inputs() -> Vec<Economy> {
     fn ask(done: &mut Done, state: &[u8], target: &[u8]) -> Number {
+        done.made.copy_from_slice(done.before);
         made::call(Kind::Ask, done.numbers, done.made, &[state, target], done.out)
     }
     vec![
@@ -190,7 +191,7 @@ fn elsewhere() -> Vec<Economy> {
         match (done.kind, done.number) {
             (Kind::Commit, 0) if !waiting[done.head] => return 18,
             (Kind::Ask | Kind::Commit, 0) => waiting[done.head] = done.kind == Kind::Ask,
-            (_, 0) => *waiting = [false; HEADS],
+            (Kind::Make | Kind::NewImage, 0) => *waiting = [false; HEADS],
             _ => {}
         }
         done.number

@@ -152,7 +152,7 @@ fn takes(name: &str, kinds: &'static [Kind], other: fn(u64) -> u64) -> Economy {
 }
 
 fn exchanged() -> Vec<Economy> {
-    const BOTH: &[Kind] = &[Kind::Ask, Kind::Commit];
+    const ALL: &[Kind] = &[Kind::Ask, Kind::Commit, Kind::Done];
     fn exchange(head: u64) -> u64 {
         if head < 2 { 1 - head } else { head }
     }
@@ -164,34 +164,47 @@ fn exchanged() -> Vec<Economy> {
     }
     vec![
         // Its answers are right.
-        by_bytes(takes("has each head in the other's place", BOTH, exchange)),
+        by_bytes(takes("has each head in the other's place", ALL, exchange)),
         takes("exchanges the heads in an ask", &[Kind::Ask], exchange),
         takes("exchanges the heads in a commit", &[Kind::Commit], exchange),
-        takes("has one head", BOTH, first),
+        takes("has one head", ALL, first),
+        takes(
+            "has the first two heads in the place of the last two",
+            ALL,
+            |head| if head < 4 { head % 2 } else { head },
+        ),
         takes("asks as head 0 always", &[Kind::Ask], first),
         takes("commits as head 0 always", &[Kind::Commit], first),
         takes("asks as head 1 always", &[Kind::Ask], second),
         takes("commits as head 1 always", &[Kind::Commit], second),
-        takes("counts the heads from 1", BOTH, |head| head.wrapping_sub(1)),
+        takes("is done as head 0 always", &[Kind::Done], |head| if head < 4 { 0 } else { head }),
+        takes("exchanges the heads in a done", &[Kind::Done], exchange),
+        takes("counts the heads from 1", ALL, |head| head.wrapping_sub(1)),
     ]
 }
 
 /// Heads that are none, taken for one that there is, in an ask or in a commit.
 fn taken_for_others() -> Vec<Economy> {
-    let others: [(&str, fn(u64) -> u64); 11] = [
+    let others: [(&str, fn(u64) -> u64); 16] = [
         ("head 2 for head 0", |head| if head == 2 { 0 } else { head }),
         ("head 2 for head 1", |head| if head == 2 { 1 } else { head }),
         ("heads up to 3", |head| if head < 4 { head % 2 } else { head }),
+        ("head 4 for head 0", |head| if head == 4 { 0 } else { head }),
+        ("head 4 for head 3", |head| if head == 4 { 3 } else { head }),
         ("a head by its last bit", |head| head % 2),
+        ("a head by its last two bits", |head| head % 4),
         ("a head by its last byte", |head| head % 256),
         ("a head by its last two bytes", |head| head % 65536),
         ("a head by its last 31 bits", |head| head % (1 << 31)),
         ("every head above 1 for head 1", |head| head.min(1)),
+        ("every head above 3 for head 3", |head| head.min(3)),
+        ("every head above 3 for head 0", |head| if head > 3 { 0 } else { head }),
         ("every head above 1 for head 0", |head| if head > 1 { 0 } else { head }),
         ("a head below zero, signed, for head 0", |head| if head >> 31 == 1 { 0 } else { head }),
         ("the head minus 1 for head 1", |head| if head == u64::from(u32::MAX) { 1 } else { head }),
     ];
-    let calls: [(&str, &'static [Kind]); 2] = [("an ask", &[Kind::Ask]), ("a commit", &[Kind::Commit])];
+    let calls: [(&str, &'static [Kind]); 3] =
+        [("an ask", &[Kind::Ask]), ("a commit", &[Kind::Commit]), ("a done", &[Kind::Done])];
     let with = |(name, other)| calls.map(|(call, kinds)| takes(&format!("takes {name} in {call}"), kinds, other));
     others.into_iter().flat_map(with).collect()
 }
@@ -215,6 +228,7 @@ fn in_other_orders() -> Vec<Economy> {
     vec![
         later("tests an ask's head behind the drive's length", Kind::Ask, &[15], another_length),
         later("tests a commit's head behind the drive's length", Kind::Commit, &[15], another_length),
+        later("tests a done's head behind the drive's length", Kind::Done, &[15], another_length),
         later("tests an ask's head behind the held image", Kind::Ask, IMAGE_NUMBERS, right_length),
         later("tests a commit's head behind the held image", Kind::Commit, IMAGE_NUMBERS, right_length),
         later("tests an ask's head behind 13", Kind::Ask, &[13], right_length),

@@ -7,13 +7,13 @@ use super::{Done, Economy, IMAGE_NUMBERS, at, behind, by_bytes, clear_answers, f
 use crate::drive::Kind;
 use crate::generate::TABLE_NUMBERS;
 use crate::image::{Number, Sizes, open, words};
-use crate::made::{self, ANSWER, HEADS, Held, IMAGE, IMAGE_ROOM, MADE_LEN, START, WAITS, put_waits, word_at};
+use crate::made::{self, ANSWER, COUNT, HEADS, Held, IMAGE, IMAGE_ROOM, MADE_LEN, START, WAITS, put_waits, word_at};
 use crate::made::{answer_room, head_part, hold, start_room, waits_part};
 use crate::rules::Rules;
 
 pub fn economies() -> Vec<Economy> {
     let accepted = [that_keep_starts(), with_other_starts(), that_keep_tables(), that_keep_bytes(), that_leave_words()];
-    let waiting = [by_other_words(), in_other_orders(), behind_refused(), of_makes()];
+    let waiting = [by_other_words(), by_other_heads(), in_other_orders(), behind_refused(), of_makes()];
     accepted.into_iter().chain(waiting).chain([with_other_numbers()]).flatten().collect()
 }
 
@@ -40,7 +40,8 @@ fn that_keep_starts() -> Vec<Economy> {
             *committed.borrow_mut() = done.head;
         }
         if done.is(Kind::NewImage, 0) {
-            done.keep(start_room(1 - *committed.borrow()));
+            let committed = *committed.borrow();
+            (0..HEADS).filter(|&head| head != committed).for_each(|head| done.keep(start_room(head)));
         }
         done.number
     });
@@ -174,32 +175,57 @@ fn that_leave_words() -> Vec<Economy> {
     ]
 }
 
-/// A drive that takes a new image, as a make does, unless this test of the waiting words says 19.
-fn waits_by(name: &str, test: fn([u32; HEADS]) -> bool) -> Economy {
+/// The heads whose words count, for a number of heads.
+type Heeded = fn(usize) -> Range<usize>;
+
+/// A drive that takes a new image unless this test of the waiting words of these heads says 19.
+fn waits_by(name: &str, heads: Heeded, test: fn(&[u32]) -> bool) -> Economy {
     lazy(name, move |done| {
         if done.kind != Kind::NewImage || !matches!(done.number, 0 | 19) {
             return done.number;
         }
-        if test(WAITS.map(|at| word_at(done.before, at))) {
+        let words: Vec<u32> = heads(done.was(COUNT) as usize).map(|head| done.was(WAITS[head])).collect();
+        if test(&words) {
             return done.refuse(19);
         }
-        made::call(Kind::Make, &[], done.made, done.inputs, &mut [])
+        done.again(|made| (0..HEADS).for_each(|head| put_waits(made, head, 0)))
     })
 }
 
+fn any(words: &[u32]) -> bool {
+    words.iter().any(|&word| word != 0)
+}
+
+/// By the right heads.
 fn by_other_words() -> Vec<Economy> {
+    let waits_by = |name: &str, test: fn(&[u32]) -> bool| waits_by(name, |count| 0..count.min(HEADS), test);
     vec![
         waits_by("takes a new image while answers wait", |_| false),
-        waits_by("heeds head 0 alone in a new image", |[first, _]| first != 0),
-        waits_by("heeds head 1 alone in a new image", |[_, second]| second != 0),
-        waits_by("says 19 where both heads wait alone", |words| words.iter().all(|&word| word != 0)),
-        waits_by("says 19 where one head waits alone", |[first, second]| (first == 0) != (second == 0)),
+        waits_by("says 19 where all heads wait alone", |words| words.iter().all(|&word| word != 0)),
+        waits_by("says 19 where one head waits alone", |words| words.iter().filter(|&&word| word != 0).count() == 1),
         waits_by("takes the word 1 alone for waiting in a new image", |words| words.contains(&1)),
         waits_by("takes the last byte alone in a new image", |words| words.iter().any(|&word| word as u8 != 0)),
         waits_by("takes a word below zero for none in a new image", |words| words.iter().any(|&word| word as i32 > 0)),
-        waits_by("adds the waiting words", |[first, second]| first.wrapping_add(second) != 0),
-        waits_by("heeds head 1's word 1 alone", |[first, second]| first != 0 || second == 1),
+        waits_by("adds the waiting words", |words| words.iter().fold(0, |sum: u32, &word| sum.wrapping_add(word)) != 0),
+        waits_by("heeds the first word, and others' word 1 alone", |words| {
+            words.first().is_some_and(|&word| word != 0) || words.iter().skip(1).any(|&word| word == 1)
+        }),
         waits_by("takes no new image ever", |_| true),
+    ]
+}
+
+/// By other heads than those made.
+fn by_other_heads() -> Vec<Economy> {
+    vec![
+        waits_by("heeds head 0 alone in a new image", |_| 0..1, any),
+        waits_by("heeds head 1 alone in a new image", |_| 1..2, any),
+        waits_by("heeds the first two heads alone in a new image", |_| 0..2, any),
+        waits_by("heeds the first three heads alone in a new image", |_| 0..3, any),
+        waits_by("heeds all but the last head in a new image", |count| 0..count.min(HEADS).saturating_sub(1), any),
+        waits_by("heeds all four heads in a new image", |_| 0..HEADS, any),
+        waits_by("heeds all four heads of a drive without heads", |count| 0..(count.wrapping_sub(1) % HEADS + 1), any),
+        waits_by("heeds none of more than four heads", |count| 0..if count > HEADS { 0 } else { count }, any),
+        waits_by("heeds the heads by the number's last two bits", |count| 0..count % HEADS, any),
     ]
 }
 
@@ -244,7 +270,7 @@ fn behind_refused() -> Vec<Economy> {
         refused("uses up the answers with 19", &[19], clear_answers),
         refused("zeroes the starts with 19", &[19], clear_starts),
         refused("replaces the tables though it says 19", &[19], |done| {
-            made::call(Kind::Make, &[], done.made, done.inputs, &mut []);
+            made::call(Kind::Make, &[2], done.made, done.inputs, &mut []);
             done.keep(IMAGE_ROOM.end..MADE_LEN);
         }),
         refused("uses up the answers with an image's number", IMAGE_NUMBERS, clear_answers),
@@ -276,7 +302,7 @@ fn of_makes() -> Vec<Economy> {
                 done.keep(head_part(1));
             }
         }),
-        by_bytes(behind("makes head 0 alone", Kind::Make, |done| done.keep(WAITS[1]..MADE_LEN))),
+        by_bytes(behind("makes head 0 alone", Kind::Make, |done| done.keep(WAITS[1]..COUNT))),
     ]
 }
 
