@@ -1,6 +1,6 @@
-/* An ask beside the solve that it makes, in one run and on the same bytes: the answers are compared, the times printed. The
- * difference is what a drive costs. The other calls on a drive are timed too. usage: ask [count]  (count: each call is made
- * once, not timed) */
+/* An ask beside the solve that it makes, in one run and on the same bytes: the answers are compared, the times printed.
+ * The difference is what a drive costs. The other calls on a drive are timed too, and a sweep. usage: ask [count]
+ * (count: each call is made once, not timed) */
 #include <stdio.h>
 #include <string.h>
 
@@ -123,6 +123,41 @@ static int report(const struct problem *p)
     return 1;
 }
 
+/* us of an ask, of a round with an allowance of that many sweeps in which each ask has the number due. */
+static double take_asks(const struct problem *p, uint16_t sweeps, uint32_t due, int *as_due)
+{
+    *as_due &= gantry_period(ready, sizeof ready, sweeps) == GANTRY_ACCEPTED;
+    double begin = now();
+    for (int c = 0; c < p->calls; c++)
+        *as_due &= call_once(p, ASK, ready) == due;
+    return 1e6 * (now() - begin) / p->calls;
+}
+
+/* For choosing the S of a period: what a sweep takes at most, from the image that never settles with one sweep and with
+ * all of its own; what an ask takes beside its sweeps; and what one takes that is refused with 20, its checks. */
+static int report_sweep(const struct problem *slowest)
+{
+    static struct problem one;
+    double least[3] = {0};
+    int as_due = 1;
+    one = *slowest;
+    put(one.image + 4 * 5, 1); /* its sweeps */
+    for (int r = 0; r < 400 && as_due; r++) {
+        double took[3];
+        as_due &= call(&one, MAKE, ready, NULL) == GANTRY_ACCEPTED;
+        took[0] = take_asks(&one, SWEEPS, GANTRY_ACCEPTED, &as_due);
+        as_due &= call(slowest, MAKE, ready, NULL) == GANTRY_ACCEPTED;
+        took[1] = take_asks(slowest, SWEEPS, GANTRY_ACCEPTED, &as_due);
+        took[2] = take_asks(slowest, 0, GANTRY_NO_SWEEPS, &as_due);
+        for (int k = 0; k < 3; k++)
+            least[k] = r == 0 || took[k] < least[k] ? took[k] : least[k];
+    }
+    double sweep = (least[1] - least[0]) / (slowest->sweeps - 1);
+    printf("for choosing S, %s: a sweep %.3f us, an ask %.2f us beside its sweeps, %.2f us refused with 20%s\n",
+           slowest->name, sweep, least[0] - sweep, least[2], as_due ? "" : ", wrong number");
+    return as_due;
+}
+
 /* Each line names a call, in the order of valgrind's counts. */
 static int count(const struct problem *p)
 {
@@ -156,5 +191,5 @@ int main(int argc, char **argv)
         if (!agree(p) || !(counting ? count(p) : report(p)))
             return 1;
     }
-    return 0;
+    return counting || report_sweep(all + PROBLEMS - 1) ? 0 : 1;
 }
