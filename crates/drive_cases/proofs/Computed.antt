@@ -21,16 +21,16 @@ use Rattle.drive.specs.Layout.{heldImage, heldStart, heldWaiting, heldAnswer, h
 use Rattle.drive.specs.Move.{movedAt, nextStart, firstCommands}
 use Rattle.drive.specs.Calls.{imagedNumber, imaged, makeNumber, blankDrive, makeDrive, newNumber, placeNumber, putShares, askNumber, askAnswer, charged, putAnswer, askDrive, partsNumber, commitNumber, commitAnswer, commitDrive, periodNumber, periodDrive, doneDrive}
 use Rattle.drive.specs.Run.{numberOn, answerOn, driveOn, writtenBy, afterCall}
-use Rattle.drive_cases.specs.Cases.{runsFrom, holds, asked, headed, allowed, S, widening, paired}
+use Rattle.drive_cases.specs.Cases.{runsFrom, holds, commitRuns, headRuns, sweepRuns, S, widening, paired}
 
-pub asked-holds : every holds asked ≡ true
-unfolding floor ceil clamp numberBE digitsBE natBE bytesBE wordsAt wordsOut F coldStart linear unclamped nextZ nextY step iterate magnitude width rangeP rangeY rangeA rangeB slack weight nextE nextQ errorStep errorAfter exactLinear gradientStep projectedStep difference residual optimumBound every every2 startWithin sound sizesOf lowerAt upperAt momentumAt limitAt entryOf commandAt problemAt problemOf headNumber bodyNumber symmetryTest othersAt marginAt totalAt leastMargin marginOf largestTotal momentumRange momentumRatio rangeTest rowTest tablesNumber imageNumber valuesOf inputsOf startOf coldAnswer valuesWithin callNumber solvableNumber solveNumber commandsAfter boundsAfter distanceAfter solveAnswer withSweeps putAt heldImage heldStart heldWaiting heldAnswer heldCount heldOwn heldCommon movedAt nextStart firstCommands imagedNumber imaged makeNumber blankDrive makeDrive newNumber placeNumber putShares askNumber askAnswer charged putAnswer askDrive partsNumber commitNumber commitAnswer commitDrive periodNumber periodDrive doneDrive numberOn answerOn driveOn writtenBy afterCall runsFrom holds S widening paired asked
-asked-holds = refl
+pub commit-runs : every holds commitRuns ≡ true
+unfolding floor ceil clamp numberBE digitsBE natBE bytesBE wordsAt wordsOut F coldStart linear unclamped nextZ nextY step iterate magnitude width rangeP rangeY rangeA rangeB slack weight nextE nextQ errorStep errorAfter exactLinear gradientStep projectedStep difference residual optimumBound every every2 startWithin sound sizesOf lowerAt upperAt momentumAt limitAt entryOf commandAt problemAt problemOf headNumber bodyNumber symmetryTest othersAt marginAt totalAt leastMargin marginOf largestTotal momentumRange momentumRatio rangeTest rowTest tablesNumber imageNumber valuesOf inputsOf startOf coldAnswer valuesWithin callNumber solvableNumber solveNumber commandsAfter boundsAfter distanceAfter solveAnswer withSweeps putAt heldImage heldStart heldWaiting heldAnswer heldCount heldOwn heldCommon movedAt nextStart firstCommands imagedNumber imaged makeNumber blankDrive makeDrive newNumber placeNumber putShares askNumber askAnswer charged putAnswer askDrive partsNumber commitNumber commitAnswer commitDrive periodNumber periodDrive doneDrive numberOn answerOn driveOn writtenBy afterCall runsFrom holds S widening paired commitRuns
+commit-runs = refl
 
-pub headed-holds : every holds headed ≡ true
-unfolding floor ceil clamp numberBE digitsBE natBE bytesBE wordsAt wordsOut F coldStart linear unclamped nextZ nextY step iterate magnitude width rangeP rangeY rangeA rangeB slack weight nextE nextQ errorStep errorAfter exactLinear gradientStep projectedStep difference residual optimumBound every every2 startWithin sound sizesOf lowerAt upperAt momentumAt limitAt entryOf commandAt problemAt problemOf headNumber bodyNumber symmetryTest othersAt marginAt totalAt leastMargin marginOf largestTotal momentumRange momentumRatio rangeTest rowTest tablesNumber imageNumber valuesOf inputsOf startOf coldAnswer valuesWithin callNumber solvableNumber solveNumber commandsAfter boundsAfter distanceAfter solveAnswer withSweeps putAt heldImage heldStart heldWaiting heldAnswer heldCount heldOwn heldCommon movedAt nextStart firstCommands imagedNumber imaged makeNumber blankDrive makeDrive newNumber placeNumber putShares askNumber askAnswer charged putAnswer askDrive partsNumber commitNumber commitAnswer commitDrive periodNumber periodDrive doneDrive numberOn answerOn driveOn writtenBy afterCall runsFrom holds S widening paired headed
-headed-holds = refl
+pub head-runs : every holds headRuns ≡ true
+unfolding floor ceil clamp numberBE digitsBE natBE bytesBE wordsAt wordsOut F coldStart linear unclamped nextZ nextY step iterate magnitude width rangeP rangeY rangeA rangeB slack weight nextE nextQ errorStep errorAfter exactLinear gradientStep projectedStep difference residual optimumBound every every2 startWithin sound sizesOf lowerAt upperAt momentumAt limitAt entryOf commandAt problemAt problemOf headNumber bodyNumber symmetryTest othersAt marginAt totalAt leastMargin marginOf largestTotal momentumRange momentumRatio rangeTest rowTest tablesNumber imageNumber valuesOf inputsOf startOf coldAnswer valuesWithin callNumber solvableNumber solveNumber commandsAfter boundsAfter distanceAfter solveAnswer withSweeps putAt heldImage heldStart heldWaiting heldAnswer heldCount heldOwn heldCommon movedAt nextStart firstCommands imagedNumber imaged makeNumber blankDrive makeDrive newNumber placeNumber putShares askNumber askAnswer charged putAnswer askDrive partsNumber commitNumber commitAnswer commitDrive periodNumber periodDrive doneDrive numberOn answerOn driveOn writtenBy afterCall runsFrom holds S widening paired headRuns
+head-runs = refl
 
-pub allowed-holds : every holds allowed ≡ true
-unfolding floor ceil clamp numberBE digitsBE natBE bytesBE wordsAt wordsOut F coldStart linear unclamped nextZ nextY step iterate magnitude width rangeP rangeY rangeA rangeB slack weight nextE nextQ errorStep errorAfter exactLinear gradientStep projectedStep difference residual optimumBound every every2 startWithin sound sizesOf lowerAt upperAt momentumAt limitAt entryOf commandAt problemAt problemOf headNumber bodyNumber symmetryTest othersAt marginAt totalAt leastMargin marginOf largestTotal momentumRange momentumRatio rangeTest rowTest tablesNumber imageNumber valuesOf inputsOf startOf coldAnswer valuesWithin callNumber solvableNumber solveNumber commandsAfter boundsAfter distanceAfter solveAnswer withSweeps putAt heldImage heldStart heldWaiting heldAnswer heldCount heldOwn heldCommon movedAt nextStart firstCommands imagedNumber imaged makeNumber blankDrive makeDrive newNumber placeNumber putShares askNumber askAnswer charged putAnswer askDrive partsNumber commitNumber commitAnswer commitDrive periodNumber periodDrive doneDrive numberOn answerOn driveOn writtenBy afterCall runsFrom holds S widening paired allowed
-allowed-holds = refl
+pub sweep-runs : every holds sweepRuns ≡ true
+unfolding floor ceil clamp numberBE digitsBE natBE bytesBE wordsAt wordsOut F coldStart linear unclamped nextZ nextY step iterate magnitude width rangeP rangeY rangeA rangeB slack weight nextE nextQ errorStep errorAfter exactLinear gradientStep projectedStep difference residual optimumBound every every2 startWithin sound sizesOf lowerAt upperAt momentumAt limitAt entryOf commandAt problemAt problemOf headNumber bodyNumber symmetryTest othersAt marginAt totalAt leastMargin marginOf largestTotal momentumRange momentumRatio rangeTest rowTest tablesNumber imageNumber valuesOf inputsOf startOf coldAnswer valuesWithin callNumber solvableNumber solveNumber commandsAfter boundsAfter distanceAfter solveAnswer withSweeps putAt heldImage heldStart heldWaiting heldAnswer heldCount heldOwn heldCommon movedAt nextStart firstCommands imagedNumber imaged makeNumber blankDrive makeDrive newNumber placeNumber putShares askNumber askAnswer charged putAnswer askDrive partsNumber commitNumber commitAnswer commitDrive periodNumber periodDrive doneDrive numberOn answerOn driveOn writtenBy afterCall runsFrom holds S widening paired sweepRuns
+sweep-runs = refl

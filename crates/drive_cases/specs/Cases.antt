@@ -73,8 +73,8 @@ paired =
 
 -- ---- the tables, one for each request
 -- request 9: ask first, then commit
-unfoldable pub asked : List Case
-asked =
+unfoldable pub commitRuns : List Case
+commitRuns =
     -- request 9: S as a drive; 18 before the first ask, and 15 before 18; a refused ask, and a refused make, leave the answer waiting; after
     -- the commit it is used up
     runs (buffer driveLength) (takes (make (S 10) 2) ∷ refuses (commit 0 4) 18 ∷ refuses (commit 0 8) 15 ∷ []) (pos 0 ∷ []) (pos 0 ∷ [])
@@ -127,8 +127,8 @@ asked =
     ∷ []
 
 -- request 10: more than one head
-unfoldable pub headed : List Case
-headed =
+unfoldable pub headRuns : List Case
+headRuns =
     -- request 10: pen and knife in turns, each with its own answer and its own start; 19 "while either head has a waiting answer", and an image
     -- that is itself refused has its own number; then each goes on from where it is
     runs (buffer driveLength)
@@ -202,8 +202,8 @@ headed =
     ∷ []
 
 -- request 11: a sweep allowance per period
-unfoldable pub allowed : List Case
-allowed =
+unfoldable pub sweepRuns : List Case
+sweepRuns =
     -- request 11: an ask of S costs 3 sweeps. Before the first period there are none, and 13, 16 and 15 come before 20
     shares (buffer driveLength)
     (takes (make (S 10) 3)
