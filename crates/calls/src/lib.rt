@@ -5,7 +5,8 @@ ghost use lib.ListN.{length};
 ghost use Rattle.gradient.specs.Demand.{startWithin};
 ghost use Rattle.image.specs.Sizes.{Whole, commandCount, inputCount};
 ghost use Rattle.image.specs.Layout.{sizesOf, problemAt};
-ghost use Rattle.interface.specs.Calls.{valuesWithin, inputPasses, startOf, callNumber, solvableNumber, solveNumber, coldNumber};
+ghost use Rattle.image.specs.Order.{firstFault};
+ghost use Rattle.interface.specs.Calls.{valuesWithin, inputPasses, startOf, targetAndStart, callNumber, solvableNumber, solveNumber, coldNumber};
 use image::Input;
 use image::Sizes;
 use magnitudes::size;
@@ -53,16 +54,13 @@ fn start_passes(image: &[u8], z: Sizes, start: &[u8]) -> bool
     true
 }
 
-// Checks 13, 16 and 14, in this order.
-fn call_number(image: &[u8], state: &[u8], target: &[u8], start: &[u8]) -> u32
+// Checks 16 and 14, in this order.
+pub fn rest_number(image: &[u8], target: &[u8], start: &[u8]) -> u32
     requires { ⌜ Whole (sizesOf (now image)) (now image) ⌝ }
-    ensures { λ r. ⌜ r ≡ callNumber (now (image .entry)) (now (state .entry)) (now (target .entry)) (now (start .entry)) ⌝ }
+    ensures { λ r. ⌜ r ≡ firstFault (targetAndStart (now (image .entry)) (now (target .entry)) (now (start .entry))) ⌝ }
 {
     let z = image::sizes_of(image);
     let n = z.nu * z.steps;
-    if !input_passes(image, z, Input::State, state) {
-        return 13;
-    }
     if !input_passes(image, z, Input::Target, target) {
         return 16;
     }
@@ -70,6 +68,18 @@ fn call_number(image: &[u8], state: &[u8], target: &[u8], start: &[u8]) -> u32
         return 14;
     }
     if start_passes(image, z, start) { 0 } else { 14 }
+}
+
+// Check 13, and these.
+fn call_number(image: &[u8], state: &[u8], target: &[u8], start: &[u8]) -> u32
+    requires { ⌜ Whole (sizesOf (now image)) (now image) ⌝ }
+    ensures { λ r. ⌜ r ≡ callNumber (now (image .entry)) (now (state .entry)) (now (target .entry)) (now (start .entry)) ⌝ }
+{
+    let z = image::sizes_of(image);
+    if !input_passes(image, z, Input::State, state) {
+        return 13;
+    }
+    rest_number(image, target, start)
 }
 
 // The number of a solve but for its buffer.

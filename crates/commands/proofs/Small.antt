@@ -12,7 +12,7 @@ use Rattle.integer.proofs.Floor.{floor-abs, ceil-least, ceil-most}
 use Rattle.integer.proofs.Clamping.{clamp-most}
 use Rattle.array.specs.Arrays.{Filled, WordsTo}
 use Rattle.commands.specs.declared.CommandTerms.{CommandTerms}
-use Rattle.commands.specs.Steps.{unclampedAt, zAt, Fitting}
+use Rattle.commands.specs.Steps.{unclampedOf, commandOf, zAt, Fitting}
 
 -- a sum in 64 bits, divided
 pub divided-size : (s : ℤ) (b : ℕ) → natAbs s < 2 ^ 63 → 4 ≤ b → natAbs (floor s (2 ^ b)) ≤ 2 ^ 59
@@ -23,9 +23,9 @@ divided-size s b h k =
 
 -- a new z is a word
 pub z-words : (m : List (List ℤ)) {t : CommandTerms} (y : List ℤ) {r : List ℤ} → Fitting t → Filled (pos 0) (t .n) (zAt m t y) r → WordsTo (t .n) r
-unfolding zAt
+unfolding commandOf
 z-words m {t} y f r i h =
-    rw (r .each i h) (clamp-most (getD (t .lower) i (pos 0)) (getD (t .upper) i (pos 0)) (unclampedAt m t y i) (f .lowers i h) (f .uppers i h))
+    rw (r .each i h) (clamp-most (getD (t .lower) i (pos 0)) (getD (t .upper) i (pos 0)) (unclampedOf t i _) (f .lowers i h) (f .uppers i h))
 
 -- a product of a new y, of a factor of at most 21 bits and a word, and what is left of it
 pub factor-size : (k : ℕ) (z : ℤ) → k ≤ 2 ^ 21 → natAbs z ≤ 2 ^ 31 → natAbs (pos k *ℤ z) ≤ 2 ^ 52

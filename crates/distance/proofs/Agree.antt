@@ -104,7 +104,8 @@ module _ {p : Problem} {inputs zs : List ℤ} (m : List (List ℤ)) {t : Residua
     few = rw (rep .n-is) (sized .commands-most);
     bits = rw (rep .b-is) (sized .b-most);
     rows = λ i h. let a : i < N = omega (arith, rep .n-is) in
-        rw (rep .n-is) (record { few = sized .commands-most; left = λ j l. row-word i j a l; right = z-word; runs = runs i a });
+        rw (rep .n-is) (record { few = sized .commands-most; left = λ j l. row-word i j a l; right = λ j l. omega (arith, z-word j l); runs = runs i a });
+    commands = λ i h. z-word i (omega (arith, rep .n-is));
     steps = λ i h. let a : i < N = omega (arith, rep .n-is) in rw (rep .n-is) (steps i a);
     lowers = λ i h. let a : i < N = omega (arith, rep .n-is) in rw (rep .lowers i a) (omega (arith, of-command i a .lower-word, top-most p sized));
     uppers = λ i h. let a : i < N = omega (arith, rep .n-is) in rw (rep .uppers i a) (omega (arith, of-command i a .upper-word, top-most p sized));

@@ -16,7 +16,7 @@ module _ {S : Type 0} (f : S → S) (s : ℕ → S) (made : (k : ℕ) → s (suc
   later zero = rw (add-zero k) refl
   later (suc j) = rw (add-suc k j) (made (k + j) ∙ ap f (later j) ∙ sym (made k) ∙ h)
 
-  constant : (n : ℕ) → k ≤ n → s n ≡ s k
+  pub constant : (n : ℕ) → k ≤ n → s n ≡ s k
   constant n l = let e : k + (n - k) ≡ n = omega arith in ap s (sym e) ∙ later (n - k)
 
 pub commands-settled : (p : Problem) (inputs start : List ℤ) (k : ℕ) → iterate p inputs start (suc k) ≡ iterate p inputs start k

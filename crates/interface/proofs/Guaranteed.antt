@@ -119,6 +119,14 @@ module _ (image state target start : List ℕ) (k : ℕ) where
       let D = distanceAfter image state target start k in
       omega (arith, length-append front (patternBytes D), front-length, length-bytes 8 D)
 
+  -- its first 4n bytes are the commands
+  pub front-bytes : take (4 * n) (answerAfter image state target start k) ≡ wordsOut (commandsAfter image state target start k)
+  front-bytes =
+      let zs = commandsAfter image state target start k in
+      let es = wordsOut (map pos (boundsAfter image k)) in
+      let D = patternBytes (distanceAfter image state target start k) in
+      ap (take (4 * n)) (append-assoc (wordsOut zs) es D) ∙ take-at (wordsOut zs) (es ++ D) (4 * n) (length-words zs ∙ ap (λ (m : ℕ). 4 * m) z-length)
+
 -- ---- what the answer of k sweeps says
 module _ (image state target start : List ℕ) (s : Solvable image state target start) (k : ℕ) where
   abbrev inputs : List ℤ
@@ -132,7 +140,7 @@ module _ (image state target start : List ℕ) (s : Solvable image state target 
   unfolding commandsAfter
   z-words i h = word-fits (problemOf image) (s .accepted .sized) _ (all1-at (claim .inRange k (omega arith) .z-word) (pos 0) i h)
 
-  commands-said : answeredCommands (n image state target start k) (answerAfter image state target start k) ≡ commandsAfter image state target start k
+  pub commands-said : answeredCommands (n image state target start k) (answerAfter image state target start k) ≡ commandsAfter image state target start k
   unfolding answeredCommands
   commands-said =
       let zs = commandsAfter image state target start k in
@@ -160,16 +168,8 @@ module _ (image state target start : List ℕ) (s : Solvable image state target 
   -- the commands' bytes as a start
   pub starts-after : StartsAgain image (answerAfter image state target start k)
   starts-after =
-      rw front
+      rw (front-bytes image state target start k)
       (written-start image (commandsAfter image state target start k) (z-length image state target start k) z-words (all-start (problemOf image) (commandsAfter image state target start k) inside))
-    where
-      front : take (4 * n image state target start k) (answerAfter image state target start k) ≡ wordsOut (commandsAfter image state target start k)
-      front =
-          let zs = commandsAfter image state target start k in
-          let es = wordsOut (map pos (boundsAfter image k)) in
-          let D = patternBytes (distanceAfter image state target start k) in
-          ap (take (4 * n image state target start k)) (append-assoc (wordsOut zs) es D)
-          ∙ take-at (wordsOut zs) (es ++ D) (4 * n image state target start k) (length-words zs ∙ ap (λ (m : ℕ). 4 * m) (z-length image state target start k))
 
   -- D, where 9 and 10 pass
   module _ (d : Dominant image) where

@@ -14,7 +14,7 @@ use Rattle.optimum.specs.Optimum.{optimumBound}
 use Rattle.image.specs.declared.Sizes.{Sizes}
 use Rattle.image.specs.declared.Input.{Input}
 use Rattle.image.specs.declared.Input.the-variants.{State, Target}
-use Rattle.image.specs.Order.{check, firstFault, orElse, bufferNumber}
+use Rattle.image.specs.Order.{Check, check, firstFault, orElse, bufferNumber}
 use Rattle.image.specs.Sizes.{commandCount, inputCount}
 use Rattle.image.specs.Layout.{sizesOf, problemOf, limitsOf}
 use Rattle.interface.specs.Tables.{marginOf, imageNumber}
@@ -48,17 +48,18 @@ valuesWithin v z image values = every2 (λ (x : ℤ) (b : ℕ). leb (natAbs x) b
 abbrev pub inputPasses : Input → Sizes → List ℕ → List ℕ → Bool
 inputPasses v z image values = eqb (length values) (4 * inputCount v z) && valuesWithin v z image values
 
+-- 16 and 14, of target and start
+abbrev pub targetAndStart : List ℕ → List ℕ → List ℕ → List Check
+targetAndStart image target start =
+    let z = sizesOf image in
+    check 16 (inputPasses Target z image target)
+    ∷ check 14 (eqb (length start) (4 * commandCount z))
+    ∷ check 14 (startWithin (problemOf image) (startOf z start))
+    ∷ []
+
 -- 13, "directly after" it 16, 14
 unfoldable pub callNumber : List ℕ → List ℕ → List ℕ → List ℕ → ℕ
-callNumber image state target start =
-    let z = sizesOf image in
-    let p = problemOf image in
-    firstFault
-    (check 13 (inputPasses State z image state)
-    ∷ check 16 (inputPasses Target z image target)
-    ∷ check 14 (eqb (length start) (4 * commandCount z))
-    ∷ check 14 (startWithin p (startOf z start))
-    ∷ [])
+callNumber image state target start = firstFault (check 13 (inputPasses State (sizesOf image) image state) ∷ targetAndStart image target start)
 
 -- "a solve is tested 6, 3, 6, 5, then 7 to" 14, with 17 after 7 and 16 after 13: all of it but its own buffer
 unfoldable pub solvableNumber : List ℕ → List ℕ → List ℕ → List ℕ → ℕ

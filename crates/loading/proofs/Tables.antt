@@ -28,7 +28,7 @@ use Rattle.array.specs.Arrays.{Filled, Tabled}
 use Rattle.dot.specs.Sums.{inputTerm, RunsTo}
 use Rattle.commands.specs.declared.CommandTerms.{CommandTerms}
 use Rattle.bounds.specs.declared.BoundTerms.{BoundTerms}
-use Rattle.loading.specs.Tables.{exactAt, linearAt, CommandTermsOf, BoundTermsOf}
+use Rattle.loading.specs.Tables.{exactAt, linearAt, TermsOf, CommandTermsOf, BoundTermsOf}
 
 -- ---- the linear term
 -- a sum of neighbouring terms of an input's row
@@ -87,6 +87,17 @@ pub linear-divided : (z : Sizes) (image state target : List ℕ) (i : ℕ) → f
 unfolding linear exactLinear problemAt F
 linear-divided z image state target i = refl
 
+-- terms with an array of linear terms have what that holds
+pub with-linear : {z : Sizes} {image : List ℕ} {f : ℕ → ℤ} {l : List ℤ} {t : CommandTerms} → Filled (pos 0) (commandCount z) f l → TermsOf z image (λ (i : ℕ). getD l i (pos 0)) t → TermsOf z image f t
+with-linear h of = record {
+  lowers = of .lowers;
+  uppers = of .uppers;
+  linears = record { sized = of .linears .sized; each = λ i l. of .linears .each i l ∙ h .each i l };
+  momentum-is = of .momentum-is;
+  n-is = of .n-is;
+  b-is = of .b-is;
+}
+
 -- ---- the arrays of a problem
 pub nothing : Command
 nothing = record { lower = pos 0; upper = pos 0; row = []; gains = [] }
@@ -98,14 +109,17 @@ command p i = getD (p .commands) i nothing
 abbrev pub HasRows : Problem → List (List ℤ) → Type 0
 HasRows p m = (i : ℕ) → i < length (p .commands) → (j : ℕ) → j < length (p .commands) → getD (getD m i []) j (pos 0) ≡ getD (command p i .row) j (pos 0)
 
--- the terms are those of a problem and its inputs
-pub record HasCommands (p : Problem) (inputs : List ℤ) (t : CommandTerms) : Type 0 where
+-- the terms are those of a problem, where f are the linear terms
+pub record HasTerms (p : Problem) (f : Command → ℤ) (t : CommandTerms) : Type 0 where
   pub n-is : t .n ≡ length (p .commands)
   pub b-is : t .b ≡ p .b
   pub momentum-is : t .momentum ≡ p .momentum
   pub lowers : (i : ℕ) → i < length (p .commands) → getD (t .lower) i (pos 0) ≡ command p i .lower
   pub uppers : (i : ℕ) → i < length (p .commands) → getD (t .upper) i (pos 0) ≡ command p i .upper
-  pub linears : (i : ℕ) → i < length (p .commands) → getD (t .linear) i (pos 0) ≡ linear p inputs (command p i)
+  pub linears : (i : ℕ) → i < length (p .commands) → getD (t .linear) i (pos 0) ≡ f (command p i)
+
+abbrev pub HasCommands : Problem → List ℤ → CommandTerms → Type 0
+HasCommands p inputs t = HasTerms p (linear p inputs) t
 
 pub record HasBounds (p : Problem) (t : BoundTerms) : Type 0 where
   pub n-is : t .n ≡ length (p .commands)
@@ -126,9 +140,9 @@ module _ (z : Sizes) (image : List ℕ) where
   unfolding commandAt
   rows-at m table i h j l = rw (command-is i h) (table i (below h) .each j (below l) ∙ sym (tab-at (entryAt z image i) (commandCount z) j (pos 0) (below l)))
 
-  commands-at : {state target : List ℕ} {t : CommandTerms} → CommandTermsOf z image state target t → HasCommands (problemAt z image) (inputsOf z state target) t
+  terms-at : (f : Command → ℤ) {t : CommandTerms} → TermsOf z image (λ (i : ℕ). f (commandAt z image i)) t → HasTerms (problemAt z image) f t
   unfolding problemAt commandAt
-  commands-at of = record {
+  terms-at f of = record {
     n-is = of .n-is ∙ sym (commands-length z image);
     b-is = of .b-is;
     momentum-is = of .momentum-is;
@@ -152,9 +166,13 @@ module _ (z : Sizes) (image : List ℕ) where
     unfolding problemOf
     has-rows m table = subst (λ (z : Sizes). HasRows (problemAt z image) m) e (rows-at m table)
 
-    pub has-commands : {state target : List ℕ} {t : CommandTerms} → CommandTermsOf z image state target t → HasCommands (problemOf image) (inputsOf (sizesOf image) state target) t
+    pub has-terms : (f : Sizes → Command → ℤ) {t : CommandTerms} → TermsOf z image (λ (i : ℕ). f z (commandAt z image i)) t → HasTerms (problemOf image) (f (sizesOf image)) t
     unfolding problemOf
-    has-commands {state} {target} {t} of = subst (λ (z : Sizes). HasCommands (problemAt z image) (inputsOf z state target) t) e (commands-at of)
+    has-terms f {t} of = subst (λ (z : Sizes). HasTerms (problemAt z image) (f z) t) e (terms-at (f z) of)
+
+    pub has-commands : (state target : List ℕ) {t : CommandTerms} → CommandTermsOf z image state target t → HasCommands (problemOf image) (inputsOf (sizesOf image) state target) t
+    unfolding problemOf
+    has-commands state target of = has-terms (λ (z : Sizes). linear (problemAt z image) (inputsOf z state target)) of
 
     pub has-bounds : {t : BoundTerms} → BoundTermsOf z image t → HasBounds (problemOf image) t
     unfolding problemOf

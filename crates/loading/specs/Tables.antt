@@ -39,14 +39,17 @@ pub record Loadable (z : Sizes) (image state target : List ℕ) : Type 0 where
   pub target-size : length target ≡ 4 * z .nr
   pub sums : (i : ℕ) → i < commandCount z → RunningSums (products (commandAt z image i .gains) (inputsOf z state target))
 
--- what stays the same over the iterations of the commands, but for M
-pub record CommandTermsOf (z : Sizes) (image state target : List ℕ) (t : CommandTerms) : Type 0 where
+-- what stays the same over the iterations of the commands, but for M, where f are the linear terms
+pub record TermsOf (z : Sizes) (image : List ℕ) (f : ℕ → ℤ) (t : CommandTerms) : Type 0 where
   pub lowers : Filled (pos 0) (commandCount z) (lowerAt z image) (t .lower)
   pub uppers : Filled (pos 0) (commandCount z) (upperAt z image) (t .upper)
-  pub linears : Filled (pos 0) (commandCount z) (linearAt z image state target) (t .linear)
+  pub linears : Filled (pos 0) (commandCount z) f (t .linear)
   pub momentum-is : t .momentum ≡ natAbs (momentumAt z image)
   pub n-is : t .n ≡ commandCount z
   pub b-is : t .b ≡ z .b
+
+abbrev pub CommandTermsOf : Sizes → List ℕ → List ℕ → List ℕ → CommandTerms → Type 0
+CommandTermsOf z image state target t = TermsOf z image (linearAt z image state target) t
 
 -- and over those of the error bounds
 pub record BoundTermsOf (z : Sizes) (image : List ℕ) (t : BoundTerms) : Type 0 where

@@ -1,13 +1,14 @@
 // What an accepted image, a state and a target give the iterations, as arrays: all that stays the same over them, but for M.
 ghost use mathlib.Core.Path.{_≡_};
 ghost use Prim.Native.Nat.{_<_};
+ghost use lib.ListN.{length, getD};
 ghost use lib.IntN.{pos};
 ghost use Rattle.image.specs.Sizes.{Whole, commandCount, inputCount};
 ghost use Rattle.image.specs.Layout.{gainRow};
 ghost use Rattle.array.specs.Arrays.{Filled, WordsTo};
 ghost use Rattle.gradient.specs.Index.{sumZ};
 ghost use Rattle.dot.specs.Sums.{inputTerm, RunsTo};
-ghost use Rattle.loading.specs.Tables.{exactAt, linearAt, widthAt, LimitsOf, Loadable, CommandTermsOf, BoundTermsOf};
+ghost use Rattle.loading.specs.Tables.{exactAt, linearAt, widthAt, LimitsOf, Loadable, TermsOf, CommandTermsOf, BoundTermsOf};
 use bounds::BoundTerms;
 use commands::CommandTerms;
 use image::Input;
@@ -37,7 +38,7 @@ pub fn limits_of(image: &[u8], z: Sizes) -> Limits
 }
 
 // Row i of an input's table times its values x, undivided.
-fn gain_sum(image: &[u8], x: &[i64; 16], z: Sizes, v: Input, i: usize) -> i64
+pub fn gain_sum(image: &[u8], x: &[i64; 16], z: Sizes, v: Input, i: usize) -> i64
     requires { ⌜ (Whole z (now image) × (i < commandCount z)) × (WordsTo (inputCount v z) (now x) × RunsTo (inputCount v z) (inputTerm (gainRow v z (now image) i) (now x))) ⌝ }
     ensures { λ r. ⌜ r ≡ sumZ (inputTerm (gainRow v z (now (image .entry)) i) (now (x .entry))) 0 (inputCount v z) ⌝ }
 {
@@ -79,16 +80,15 @@ fn linear_terms(image: &[u8], state: &[u8], target: &[u8], z: Sizes) -> [i64; 16
     r
 }
 
-// What the iterations of the commands take.
-pub fn command_terms(image: &[u8], state: &[u8], target: &[u8], z: Sizes) -> CommandTerms
-    requires { ⌜ Loadable z (now image) (now state) (now target) ⌝ }
-    ensures { λ r. ⌜ CommandTermsOf z (now (image .entry)) (now (state .entry)) (now (target .entry)) r ⌝ }
+// What the iterations of the commands take, with these linear terms.
+pub fn terms_with(image: &[u8], z: Sizes, linear: [i64; 16]) -> CommandTerms
+    requires { ⌜ Whole z (now image) × (length linear ≡ 16) ⌝ }
+    ensures { λ r. ⌜ TermsOf z (now (image .entry)) (λ i. getD linear i (pos 0)) r ⌝ }
 {
     let n = z.nu * z.steps;
     let l = limits_of(image, z);
     let lower = l.lower;
     let upper = l.upper;
-    let linear = linear_terms(image, state, target, z);
     let momentum = magnitudes::momentum_size(image, z);
     CommandTerms {
         lower,
@@ -98,6 +98,15 @@ pub fn command_terms(image: &[u8], state: &[u8], target: &[u8], z: Sizes) -> Com
         n,
         b: z.b,
     }
+}
+
+// What they take for a state and a target.
+pub fn command_terms(image: &[u8], state: &[u8], target: &[u8], z: Sizes) -> CommandTerms
+    requires { ⌜ Loadable z (now image) (now state) (now target) ⌝ }
+    ensures { λ r. ⌜ CommandTermsOf z (now (image .entry)) (now (state .entry)) (now (target .entry)) r ⌝ }
+{
+    let linear = linear_terms(image, state, target, z);
+    terms_with(image, z, linear)
 }
 
 // w of each command.

@@ -40,7 +40,7 @@ pub fn matrix(image: &[u8], z: Sizes) -> [[i64; 16]; 16]
 }
 
 // The magnitudes of a row of M.
-fn magnitude_row(row: &[i64; 16], n: usize) -> [u64; 16]
+pub fn magnitude_row(row: &[i64; 16], n: usize) -> [u64; 16]
     requires { ⌜ (n ≤ 16) × WordsTo n (now row) ⌝ }
     ensures { λ r. ⌜ Filled 0 n (λ j. natAbs (getD (now (row .entry)) j (pos 0))) r ⌝ }
 {

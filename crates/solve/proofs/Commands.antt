@@ -32,7 +32,7 @@ use Rattle.array.specs.Arrays.{Filled, WordsTo, RowsTo}
 use Rattle.array.proofs.Filling.{same-held}
 use Rattle.dot.specs.Sums.{RunsTo}
 use Rattle.commands.specs.declared.CommandTerms.{CommandTerms}
-use Rattle.commands.specs.Steps.{unclampedAt, zAt, pointOf, Fitting, SumsTo, Stored}
+use Rattle.commands.specs.Steps.{unclampedOf, commandOf, zAt, pointOf, Fitting, SumsTo, StoredY, StoredZ}
 use Rattle.loading.specs.Tables.{Loadable}
 use Rattle.loading.proofs.Tables.{nothing, command, command-is, HasRows, HasCommands, count-is}
 use Rattle.solve.specs.Reached.{CommandsAt, CommandsOf}
@@ -124,9 +124,10 @@ module _ {p : Problem} {inputs start : List ℤ} (m : List (List ℤ)) {t : Comm
     sums i h = rw (rep .n-is) (row-runs i (omega (arith, rep .n-is)))
 
     -- ---- one more
-    module _ (new z′ y′ : List ℤ) (same : Bool) (made : Filled (pos 0) (t .n) (zAt m t y) new) (kept : Stored t new z y z′ y′ same) where
+    module _ (new z′ y′ : List ℤ) {first same : Bool} (made : Filled (pos 0) (t .n) (zAt m t y) new)
+        (put-y : StoredY (t .n) (t .b) (t .momentum) new z y y′ true first) (put-z : StoredZ (t .n) new z z′ first same) where
       z-is : (i : ℕ) → i < N → zAt m t y i ≡ nextZ p inputs (I .y) (command p i)
-      unfolding zAt unclampedAt nextZ F
+      unfolding commandOf unclampedOf nextZ F
       z-is i h =
           rw (rep .b-is, rep .n-is, rep .lowers i h, rep .uppers i h, rep .linears i h, unclamped-sum p inputs (I .y) (command p i) N (of-command i h .row-length) (y-length k))
           (ap (λ (x : ℤ). clamp (command p i .lower) (command p i .upper) (floor x (2 ^ p .b) -ℤ linear p inputs (command p i))) (terms-are i h 0 N (omega arith)))
@@ -138,13 +139,13 @@ module _ {p : Problem} {inputs start : List ℤ} (m : List (List ℤ)) {t : Comm
       new-y : (i : ℕ) → i < N → getD y′ i (pos 0) ≡ getD (iterate p inputs start (suc k) .y) i (pos 0)
       unfolding iterate pointOf nextY F
       new-y i h =
-          kept .new-y .each i (omega (arith, rep .n-is))
+          put-y .new-y .each i (omega (arith, rep .n-is))
           ∙ rw (rep .b-is, rep .momentum-is, new-is i h, at .at-z .each i h) (sym (step-y-at p inputs I nothing (pos 0) i h (omega (arith, z-length k))))
 
       pub reached : CommandsAt p inputs start (suc k) z′ y′
       reached = record {
-        at-z = record { sized = kept .new-z .sized; each = λ i h. kept .new-z .each i (omega (arith, rep .n-is)) ∙ new-is i h };
-        at-y = record { sized = kept .new-y .sized; each = new-y };
+        at-z = record { sized = put-z .new-z .sized; each = λ i h. put-z .new-z .each i (omega (arith, rep .n-is)) ∙ new-is i h };
+        at-y = record { sized = put-y .new-y .sized; each = new-y };
       }
 
       -- the new iterates are the old ones where the arrays are, and then so is every later one
@@ -152,7 +153,7 @@ module _ {p : Problem} {inputs start : List ℤ} (m : List (List ℤ)) {t : Comm
       settled e n l = commands-settled p inputs start k unchanged n (omega arith) ∙ sym unchanged
         where
           unchanged : iterate p inputs start (suc k) ≡ I
-          unchanged = same-iterate (same-held (pos 0) (z-length k) (z-length (suc k)) (at .at-z) (reached .at-z) (kept .same e .0)) (same-held (pos 0) (y-length k) (y-length (suc k)) (at .at-y) (reached .at-y) (kept .same e .1))
+          unchanged = same-iterate (same-held (pos 0) (z-length k) (z-length (suc k)) (at .at-z) (reached .at-z) (put-z .same e .1)) (same-held (pos 0) (y-length k) (y-length (suc k)) (at .at-y) (reached .at-y) (put-y .same (put-z .same e .0) .1))
 
 -- ---- on an image
 pub checked : {image state target start : List ℕ} → Solvable image state target start → Checked (problemOf image) (inputsOf (sizesOf image) state target) (startOf (sizesOf image) start)

@@ -24,13 +24,14 @@ fn commands_after(
 {
     let s = image::sizes_of(image);
     let t = loading::command_terms(image, state, target, s);
+    let mut new = array::blank();
     let mut z = array::words_of(start, t.n);
     let mut y = z;
-    let mut new = array::blank();
     let mut k = 0;
     while k < count {
         commands::next_z(&m, t, &y, &mut new);
-        if commands::store(t, &new, &mut z, &mut y) {
+        let same = commands::store_y(t.n, t.b, t.momentum, &new, &z, &mut y, true);
+        if commands::store_z(t.n, &new, &mut z, same) {
             return z;
         }
         k += 1;

@@ -4,17 +4,15 @@ use mathlib.Core.Path.{_≡_, ap, _∙_}
 use mathlib.Core.List.{[]}
 use Prim.Native.Nat.{ℕ, _-_, _^_, _≤_}
 use lib.ListN.{getD}
-use lib.IntN.{ℤ, pos, natAbs, _-ℤ_}
+use lib.IntN.{ℤ, pos, natAbs}
 use mir.Syntax.{w64}
 use mir.Val.{toZ, ofZ, SFits}
 use mir.Facts.{toZ-ofZ}
-use Rattle.integer.specs.Round.{floor, clamp}
-use Rattle.integer.proofs.Laws.{abs-sub}
 use Rattle.integer.proofs.Machine.{back, fit-abs}
 use Rattle.array.proofs.Filling.{Filling, none, more, full}
+use Rattle.gradient.specs.Demand.{In64}
 use Rattle.gradient.specs.Index.{sumZ, productAt}
-use Rattle.commands.specs.Steps.{unclampedAt, zAt}
-use Rattle.commands.proofs.Small.{divided-size}
+use Rattle.commands.specs.Steps.{unclampedOf, commandOf, zAt}
 use Rattle.commands.proofs.next_z.Statement.{statement}
 use Rattle.commands.proofs.next_z.Tie as tie
 
@@ -24,43 +22,31 @@ Inv-loop m y new₀ t n i₀ new i = Filling (pos 0) (λ k x. x ≡ zAt m t y k)
 abbrev μ-loop : tie.MeasureT-loop
 μ-loop m y new₀ t n i₀ new i = n - i
 
--- a turn's t
-module _ (c : tie.After-x Inv-loop μ-loop) where
+-- a turn's sum, and its linear term
+module _ (c : tie.After-dot Inv-loop μ-loop) where
   abbrev start : tie.Start Inv-loop μ-loop
-  start = c .before .before .before .before .before .before
+  start = c .before .before .before .before
 
   abbrev i : ℕ
-  i = c .before .before .before .before .before .loop .i
+  i = c .before .before .before .loop .i
 
   abbrev sum : ℤ
   sum = sumZ (productAt (getD (start .args .m .now) i []) (start .args .y .now)) 0 (start .args .t2 .n)
 
-  abbrev x : ℤ
-  x = c .before .floor-div .result
+  sum-is : toZ w64 (ofZ w64 (c .dot .result)) ≡ sum
+  sum-is = back (c .dot .result) (c .dot .ok) ∙ c .dot .ensures
 
-  divided : x ≡ floor sum (2 ^ start .args .t2 .b)
-  divided =
-      let d = c .before .before .dot in
-      (rw (back (d .result) (d .ok)) at (c .before .floor-div .ensures)) ∙ ap (λ (z : ℤ). floor z (2 ^ start .args .t2 .b)) (d .ensures)
-
-  x-small : natAbs x ≤ 2 ^ 59
-  x-small = rw divided (divided-size sum (start .args .t2 .b) (start .pre .1 .0 .1 i (omega arith) 0 (start .args .t2 .n) (omega arith)) (start .pre .0 .0 .low))
+  sum-small : In64 sum
+  sum-small = start .pre .1 .0 .1 i (omega arith) 0 (start .args .t2 .n) (omega arith)
 
   abbrev h : ℤ
   h = getD (start .args .t2 .linear) i (pos 0)
 
-  small : natAbs h ≤ 2 ^ 31
-  small = start .pre .0 .0 .linears i (omega arith)
+  h-small : natAbs h ≤ 2 ^ 31
+  h-small = start .pre .0 .0 .linears i (omega arith)
 
   fh : SFits w64 h
-  fh = fit-abs h (omega (arith, small))
-
-  whole : SFits w64 (x -ℤ h)
-  whole = fit-abs (x -ℤ h) (omega (arith, abs-sub x h, small, x-small))
-
-  made : toZ w64 (ofZ w64 (toZ w64 (ofZ w64 x) -ℤ toZ w64 (ofZ w64 h))) ≡ unclampedAt (start .args .m .now) (start .args .t2) (start .args .y .now) i
-  unfolding unclampedAt
-  made = rw (back x (c .before .floor-div .ok), toZ-ofZ fh, toZ-ofZ whole) (ap (λ (z : ℤ). z -ℤ h) divided)
+  fh = fit-abs h (omega (arith, h-small))
 
 loop-holds : tie.Need-loop-holds Inv-loop μ-loop
 loop-holds c =
@@ -80,39 +66,35 @@ dot-requires c κs =
     record {
       few = omega arith;
       left = λ j h. a .pre .0 .1 i (omega arith) j (omega arith);
-      right = λ j h. a .pre .1 .0 .0 j (omega arith);
+      right = λ j h. omega (arith, a .pre .1 .0 .0 j (omega arith));
       runs = λ j k h. a .pre .1 .0 .1 i (omega arith) j k (omega arith);
     }
 
-floor-div-requires : tie.Need-floor-div-requires Inv-loop μ-loop
-floor-div-requires c κs = omega arith
+mul-command : tie.Need-mul-command Inv-loop μ-loop
+mul-command c = omega arith
 
-mul-x : tie.Need-mul-x Inv-loop μ-loop
-mul-x c = omega arith
+element-copy-out-command : tie.Need-element-copy-out-command Inv-loop μ-loop
+element-copy-out-command c = omega arith
 
-element-copy-out-x : tie.Need-element-copy-out-x Inv-loop μ-loop
-element-copy-out-x c = omega arith
+mul-command-2 : tie.Need-mul-command-2 Inv-loop μ-loop
+mul-command-2 c = omega arith
 
-sub-x : tie.Need-sub-x Inv-loop μ-loop
-sub-x c = rw (back (x c) (c .before .floor-div .ok), toZ-ofZ (fh c)) (whole c)
+element-copy-out-command-2 : tie.Need-element-copy-out-command-2 Inv-loop μ-loop
+element-copy-out-command-2 c = omega arith
 
-mul-clamp : tie.Need-mul-clamp Inv-loop μ-loop
-mul-clamp c = omega arith
+mul-command-3 : tie.Need-mul-command-3 Inv-loop μ-loop
+mul-command-3 c = omega arith
 
-element-copy-out-clamp : tie.Need-element-copy-out-clamp Inv-loop μ-loop
-element-copy-out-clamp c = omega arith
+element-copy-out-command-3 : tie.Need-element-copy-out-command-3 Inv-loop μ-loop
+element-copy-out-command-3 c = omega arith
 
-mul-clamp-2 : tie.Need-mul-clamp-2 Inv-loop μ-loop
-mul-clamp-2 c = omega arith
+command-requires : tie.Need-command-requires Inv-loop μ-loop
+command-requires c κs =
+    let d = c .before .before .before in
+    ((rw (sum-is d) (sum-small d), rw (toZ-ofZ (fh d)) (h-small d)), (omega arith, omega arith))
 
-element-copy-out-clamp-2 : tie.Need-element-copy-out-clamp-2 Inv-loop μ-loop
-element-copy-out-clamp-2 c = omega arith
-
-clamp-requires : tie.Need-clamp-requires Inv-loop μ-loop
-clamp-requires c κs = tt
-
-mul-t25 : tie.Need-mul-t25 Inv-loop μ-loop
-mul-t25 c = omega arith
+mul-t27 : tie.Need-mul-t27 Inv-loop μ-loop
+mul-t27 c = omega arith
 
 element-set-from-new : tie.Need-element-set-from-new Inv-loop μ-loop
 element-set-from-new c = omega arith
@@ -124,16 +106,16 @@ loop-less : tie.Need-loop-less Inv-loop μ-loop
 loop-less c = omega arith
 
 loop-again : tie.Need-loop-again Inv-loop μ-loop
-unfolding zAt
+unfolding commandOf unclampedOf
 loop-again c =
-    let d = c .before .before .before in
+    let d = c .before .before .before .before in
     let a = start d in
     let lower = getD (a .args .t2 .lower) (i d) (pos 0) in
     let upper = getD (a .args .t2 .upper) (i d) (pos 0) in
-    more (pos 0) (λ k x. x ≡ zAt (a .args .m .now) (a .args .t2) (a .args .y .now) k) (toZ w64 (ofZ w64 (c .clamp .result))) (a .pre .0 .0 .few) (d .before .before .before .before .loop-test .taken) (d .before .before .before .before .before .loop .inv)
-    (back (c .clamp .result) (c .clamp .ok)
-    ∙ (rw (back lower (c .before .before .clamp-arg .given), back upper (c .before .clamp-arg2 .given)) at (c .clamp .ensures))
-    ∙ ap (clamp lower upper) (made d))
+    more (pos 0) (λ k x. x ≡ zAt (a .args .m .now) (a .args .t2) (a .args .y .now) k) (toZ w64 (ofZ w64 (c .command .result))) (a .pre .0 .0 .few) (d .before .before .loop-test .taken) (d .before .before .before .loop .inv)
+    (back (c .command .result) (c .command .ok)
+    ∙ (rw (back lower (c .before .before .command-arg2 .given), back upper (c .before .command-arg3 .given), toZ-ofZ (fh d)) at (c .command .ensures))
+    ∙ ap (commandOf (a .args .t2) (i d)) (sum-is d))
 
 returns : tie.Need-returns Inv-loop μ-loop
 returns c =
@@ -150,16 +132,14 @@ next-z-spec =
     mul-dot
     index-1-dot
     dot-requires
-    floor-div-requires
-    mul-x
-    element-copy-out-x
-    sub-x
-    mul-clamp
-    element-copy-out-clamp
-    mul-clamp-2
-    element-copy-out-clamp-2
-    clamp-requires
-    mul-t25
+    mul-command
+    element-copy-out-command
+    mul-command-2
+    element-copy-out-command-2
+    mul-command-3
+    element-copy-out-command-3
+    command-requires
+    mul-t27
     element-set-from-new
     add-i
     loop-less

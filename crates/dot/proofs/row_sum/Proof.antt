@@ -30,7 +30,7 @@ dot-requires c κs =
     record {
       few = omega (arith, p .few);
       left = λ i h. c .before .words-of .ensures .1 i (omega arith);
-      right = λ i h. p .right i (omega arith);
+      right = λ i h. omega (arith, p .right i (omega arith));
       runs = λ a k l. let h : a + k ≤ d (c .before) .args .n = omega arith in rw (terms-are (c .before) a k h) (p .runs a k h);
     }
 

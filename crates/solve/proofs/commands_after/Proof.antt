@@ -3,7 +3,7 @@ use native.Mathlib.Omega.{arith}
 use native.Mathlib.Numerals.{add-one}
 use mathlib.Core.Path.{_≡_, refl, sym, ap, subst, _∙_}
 use mathlib.Core.List.{List}
-use Prim.Native.Nat.{ℕ, suc, _*_, _-_, _≤_}
+use Prim.Native.Nat.{ℕ, suc, _*_, _-_, _≤_, _<_}
 use lib.ListN.{length}
 use lib.IntN.{ℤ, pos}
 use Rattle.word.specs.Word.{wordAt}
@@ -27,10 +27,10 @@ abbrev At : List ℕ → List ℕ → List ℕ → List ℕ → ℕ → List ℤ
 At image state target start k z y = CommandsAt (problemOf image) (inputsOf (sizesOf image) state target) (startOf (sizesOf image) start) k z y
 
 abbrev Inv-loop : tie.InvT-loop
-Inv-loop image state target start count m t z₀ y₀ new₀ k₀ z y new k = (k ≤ count) × (At image state target start k z y × (length new ≡ 16))
+Inv-loop image state target start count m t new₀ z₀ y₀ k₀ new z y k = (k ≤ count) × (At image state target start k z y × (length new ≡ 16))
 
 abbrev μ-loop : tie.MeasureT-loop
-μ-loop image state target start count m t z₀ y₀ new₀ k₀ z y new k = count - k
+μ-loop image state target start count m t new₀ z₀ y₀ k₀ new z y k = count - k
 
 -- the sizes are the image's
 module _ (c : tie.After-sizes-of Inv-loop μ-loop) where
@@ -55,7 +55,7 @@ module _ (c : tie.After-command-terms Inv-loop μ-loop) where
   rows = has-rows (sizesOf (image d)) (image d) refl m (start d .pre .1)
 
   rep : HasCommands (problemOf (image d)) (inputsOf (sizesOf (image d)) (start d .args .state .now) (start d .args .target .now)) (c .command-terms .result)
-  rep = has-commands (d .sizes-of .result) (image d) (d .sizes-of .ensures) (c .command-terms .ensures)
+  rep = has-commands (d .sizes-of .result) (image d) (d .sizes-of .ensures) (start d .args .state .now) (start d .args .target .now) (c .command-terms .ensures)
 
   chk : Checked (problemOf (image d)) (inputsOf (sizesOf (image d)) (start d .args .state .now) (start d .args .target .now)) (startOf (sizesOf (image d)) (start d .args .start .now))
   chk = checked (start d .pre .0)
@@ -64,21 +64,30 @@ module _ (c : tie.After-command-terms Inv-loop μ-loop) where
   n-is = c .command-terms .ensures .n-is ∙ ap (λ (z : Sizes). commandCount z) (d .sizes-of .ensures)
 
 -- what an iteration made
-module _ (c : tie.After-store Inv-loop μ-loop) where
+module _ (c : tie.After-store-z Inv-loop μ-loop) where
   abbrev l : tie.At-loop Inv-loop μ-loop
-  l = c .before .before .before .before .before .before .before .before .before
+  l = c .before .before .before .before .before .before .before .before .before .before .before .before
 
   abbrev t : tie.After-command-terms Inv-loop μ-loop
   t = l .before .before .before
 
+  abbrev g : tie.After-next-z Inv-loop μ-loop
+  g = c .before .before .before .before .before .before .before
+
+  abbrev first : tie.After-store-y Inv-loop μ-loop
+  first = c .before .before .before
+
   abbrev new : List ℤ
-  new = c .before .before .before .before .next-z .last .1 .1 .1 .0
+  new = g .next-z .last .1 .1 .1 .0
 
   made : Filled (pos 0) (t .command-terms .result .n) (zAt (m t) (t .command-terms .result) (l .loop .y)) new
-  made = c .before .before .before .before .next-z .ensures
+  made = g .next-z .ensures
 
-  next : At (image (d t)) (start (d t) .args .state .now) (start (d t) .args .target .now) (start (d t) .args .start .now) (suc (l .loop .k)) (c .store .last .1 .1 .0) (c .store .last .1 .1 .1 .0)
-  next = reached (m t) (rows t) (rep t) (chk t) (l .loop .k) (l .loop .z) (l .loop .y) (l .loop .inv .1 .0) new _ _ (c .store .result) made (c .store .ensures)
+  taken : l .loop .k < start (d t) .args .count
+  taken = g .before .before .before .before .loop-test .taken
+
+  next : At (image (d t)) (start (d t) .args .state .now) (start (d t) .args .target .now) (start (d t) .args .start .now) (suc (l .loop .k)) (c .store-z .last .1 .1 .0) (first .store-y .last .1 .1 .1 .1 .1 .0)
+  next = reached (m t) (rows t) (rep t) (chk t) (l .loop .k) (l .loop .z) (l .loop .y) (l .loop .inv .1 .0) new _ _ made (first .store-y .ensures) (c .store-z .ensures)
 
 sizes-of-requires : tie.Need-sizes-of-requires Inv-loop μ-loop
 sizes-of-requires c κs = omega (arith, c .before .before .before .before .pre .0 .accepted .whole .size)
@@ -90,9 +99,10 @@ command-terms-requires c κs =
 
 words-of-requires : tie.Need-words-of-requires Inv-loop μ-loop
 words-of-requires c κs =
-    let n = n-is c in
-    let w = is-whole (c .before) .sizes .n-high in
-    (omega (arith, c .command-terms .ensures .n-is), omega (arith, start (c .before) .pre .0 .start-size))
+    let t = c .before in
+    let n = n-is t in
+    let w = is-whole (t .before) .sizes .n-high in
+    (omega (arith, t .command-terms .ensures .n-is), omega (arith, start (t .before) .pre .0 .start-size))
 
 blank-requires : tie.Need-blank-requires Inv-loop μ-loop
 blank-requires c κs = tt
@@ -101,8 +111,8 @@ loop-holds : tie.Need-loop-holds Inv-loop μ-loop
 loop-holds c =
     let t = c .before .before in
     let a = start (d t) .args in
-    let z = c .before .words-of in
-    (omega arith, (first-commands (a .image .now) (a .state .now) (a .target .now) (a .start .now) (z .result) (subst (λ (n : ℕ). Filled (pos 0) n (λ (i : ℕ). wordAt (a .start .now) (4 * i)) (z .result)) (n-is t) (z .ensures .0)), c .blank .ensures))
+    let z = c .words-of in
+    (omega arith, (first-commands (a .image .now) (a .state .now) (a .target .now) (a .start .now) (z .result) (subst (λ (n : ℕ). Filled (pos 0) n (λ (i : ℕ). wordAt (a .start .now) (4 * i)) (z .result)) (n-is t) (z .ensures .0)), c .before .blank .ensures))
 
 next-z-requires : tie.Need-next-z-requires Inv-loop μ-loop
 next-z-requires c κs =
@@ -111,13 +121,23 @@ next-z-requires c κs =
     let i = l .loop .inv .1 in
     ((fitting (m t) (rows t) (rep t) (chk t), row-words (m t) (chk t .sized) (rep t .n-is) (rows t)), ((y-words (m t) (rows t) (rep t) (chk t) (l .loop .k) (l .loop .z) (l .loop .y) (i .0), sums (m t) (rows t) (rep t) (chk t) (l .loop .k) (l .loop .z) (l .loop .y) (i .0)), i .1))
 
-store-requires : tie.Need-store-requires Inv-loop μ-loop
-store-requires c κs =
-    let l = c .before .before .before .before .before .before .before .before in
+store-y-requires : tie.Need-store-y-requires Inv-loop μ-loop
+store-y-requires c κs =
+    let g = c .before .before .before in
+    let l = g .before .before .before .before .before in
     let t = l .before .before .before in
     let at = l .loop .inv .1 .0 in
     let f = fitting (m t) (rows t) (rep t) (chk t) in
-    ((f, small.z-words (m t) (l .loop .y) f (c .before .before .before .next-z .ensures)), ((z-words (m t) (rows t) (rep t) (chk t) (l .loop .k) (l .loop .z) (l .loop .y) at, at .at-z .sized), (y-words (m t) (rows t) (rep t) (chk t) (l .loop .k) (l .loop .z) (l .loop .y) at, at .at-y .sized)))
+    (((f .few, f .high), (f .momentum-most, small.z-words (m t) (l .loop .y) f (g .next-z .ensures))), (z-words (m t) (rows t) (rep t) (chk t) (l .loop .k) (l .loop .z) (l .loop .y) at, (y-words (m t) (rows t) (rep t) (chk t) (l .loop .k) (l .loop .z) (l .loop .y) at, at .at-y .sized)))
+
+store-z-requires : tie.Need-store-z-requires Inv-loop μ-loop
+store-z-requires c κs =
+    let g = c .before .before .before .before .before .before in
+    let l = g .before .before .before .before .before in
+    let t = l .before .before .before in
+    let at = l .loop .inv .1 .0 in
+    let f = fitting (m t) (rows t) (rep t) (chk t) in
+    (f .few, (small.z-words (m t) (l .loop .y) f (g .next-z .ensures), (z-words (m t) (rows t) (rep t) (chk t) (l .loop .k) (l .loop .z) (l .loop .y) at, at .at-z .sized)))
 
 returns : tie.Need-returns Inv-loop μ-loop
 returns c =
@@ -126,18 +146,18 @@ returns c =
     let t = t s in
     let a = start (d t) .args in
     held-after (a .image .now) (a .state .now) (a .target .now) (a .start .now) (a .count) (next s)
-    (settled (m t) (rows t) (rep t) (chk t) (l .loop .k) (l .loop .z) (l .loop .y) (l .loop .inv .1 .0) (new s) _ _ (s .store .result) (made s) (s .store .ensures) (c .if1 .taken) (a .count) (omega (arith, s .before .before .before .before .before .before .before .before .loop-test .taken)))
+    (settled (m t) (rows t) (rep t) (chk t) (l .loop .k) (l .loop .z) (l .loop .y) (l .loop .inv .1 .0) (new s) _ _ (made s) (first s .store-y .ensures) (s .store-z .ensures) (c .if1 .taken) (a .count) (taken s))
 
 add-k : tie.Need-add-k Inv-loop μ-loop
-add-k c = record { fits = omega (arith, start (d (t (c .before))) .fits .count) }
+add-k c = record { fits = omega (arith, start (d (t (c .before))) .fits .count, taken (c .before)) }
 
 loop-less : tie.Need-loop-less Inv-loop μ-loop
-loop-less c = omega arith
+loop-less c = omega (arith, taken (c .before))
 
 loop-again : tie.Need-loop-again Inv-loop μ-loop
 loop-again c =
     let s = c .before in
-    (omega arith, (rw (add-one (l s .loop .k)) (next s), made s .sized))
+    (omega (arith, taken s), (rw (add-one (l s .loop .k)) (next s), made s .sized))
 
 returns-2 : tie.Need-returns-2 Inv-loop μ-loop
 returns-2 c =
@@ -154,11 +174,12 @@ commands-after-spec =
     μ-loop
     sizes-of-requires
     command-terms-requires
-    words-of-requires
     blank-requires
+    words-of-requires
     loop-holds
     next-z-requires
-    store-requires
+    store-y-requires
+    store-z-requires
     returns
     add-k
     loop-less
