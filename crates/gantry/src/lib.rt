@@ -5,6 +5,8 @@ ghost use lib.Dec.{eqb};
 ghost use lib.ListN.{length};
 ghost use Rattle.interface.specs.Calls.{coldNumber, coldAnswer, solveNumber, solveAnswer};
 ghost use Rattle.interface.specs.Demand.{Guarantee};
+ghost use Rattle.range_interface.specs.Calls.{rangeSolveNumber, rangeAnswer};
+ghost use Rattle.range_interface.specs.Claim.{RangeGuarantee};
 ghost use Rattle.intake.specs.Intake.{intakeNumber, intakeImage};
 ghost use Rattle.design_page.specs.Page.{pageNumber, sheetPage};
 ghost use Rattle.drive.specs.Layout.{heldImage, heldStart};
@@ -57,6 +59,26 @@ pub extern "C" fn gantry_solve(
     let number = calls::solve_number(image, state, target, start, answer.len());
     if number == 0 {
         solve::solve(image, state, target, start, answer);
+    }
+    number
+}
+
+// The same for a state that is known within ranges: writes the lowest and the highest commands.
+#[no_mangle]
+pub extern "C" fn gantry_range_solve(
+    image: &[u8],
+    ranges: &[u8],
+    target: &[u8],
+    start: &[u8],
+    answer: &mut [u8],
+) -> u32
+    ensures number { λ r. ⌜ r ≡ rangeSolveNumber (now (image .entry)) (now (ranges .entry)) (now (target .entry)) (now (start .entry)) (length (now (answer .entry))) ⌝ }
+    ensures bytes { λ r. ⌜ now (answer .exit) ≡ cond (eqb r 0) (rangeAnswer (now (image .entry)) (now (ranges .entry)) (now (target .entry)) (now (start .entry))) (now (answer .entry)) ⌝ }
+    ensures guarantee { λ r. ⌜ (r ≡ 0 → RangeGuarantee (now (image .entry)) (now (ranges .entry)) (now (target .entry)) (now (start .entry)) (now (answer .exit))) ⌝ }
+{
+    let number = range_calls::range_solve_number(image, ranges, target, start, answer.len());
+    if number == 0 {
+        range_solve::range_solve(image, ranges, target, start, answer);
     }
     number
 }

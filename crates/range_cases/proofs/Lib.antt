@@ -1,0 +1,2 @@
+-- The check.
+pub mod Computed

@@ -1,0 +1,2 @@
+-- The cases, and what is computed of them.
+pub mod Cases

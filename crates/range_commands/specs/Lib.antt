@@ -1,0 +1,2 @@
+-- What the contract of an iteration of both ends cites.
+pub mod Steps
