@@ -69,6 +69,30 @@ static void make_slowest(struct problem *p)
     memset(p->target, 0, sizeof p->target);
 }
 
+/* The slowest known for ranges. Where a row's margin is small beside the step factor, lowest and highest part fast and soon
+ * stand at the limits, all but the last row's of the image above. Here the factor is the smallest that passes check 11, and
+ * they part by some counts at every sweep; the signs of the table are mixed, so that a branch on one is hard to predict. */
+void make_slowest_ranges(struct problem *p)
+{
+    int n = 16, limits = 8 + n * n + n * 12, diagonal = 4096;
+    int64_t limit = 1 << 28, f = 1 << 20, least = diagonal - (n - 1), largest = diagonal + (n - 1), beta = 0;
+    make(p, 4, 4, 12, 4, 20, 400);
+    for (int i = 0; i < n; i++) {
+        for (int j = i; j < n; j++) {
+            int64_t h = i == j ? diagonal : random_word(1000) < 0 ? -1 : 1;
+            put(p->image + 4 * (8 + i * n + j), h);
+            put(p->image + 4 * (8 + j * n + i), h);
+        }
+        put(p->image + 4 * (limits + i), -limit);
+        put(p->image + 4 * (limits + n + i), limit);
+        put(p->start + 4 * i, i % 2 ? limit : -limit);
+    }
+    while ((f + beta) * (f + beta) * least < (f - beta) * (f - beta) * largest)
+        beta++;
+    put(p->image + 4 * (limits + 2 * n), beta);
+    p->name = "n 16, nx 12, nr 4, b 20, 400 sweeps, slowest for ranges", p->calls = 3;
+}
+
 void make_problems(struct problem *all)
 {
     struct problem *small = all, *hundred = all + 1, *largest = all + 2, *slowest = all + 3;

@@ -1,4 +1,4 @@
-/* What the two benchmarks share: the problems, the library's solve of one, and the clock. */
+/* What the benchmarks share: the problems, the library's solve of one, and the clock. */
 #ifndef PROBLEMS_H
 #define PROBLEMS_H
 
@@ -33,6 +33,9 @@ static inline int64_t word(const struct problem *p, int index) { return get(p->i
 
 /* The last one is the slowest known. */
 void make_problems(struct problem *all);
+
+/* The slowest known for ranges wider than one value. */
+void make_slowest_ranges(struct problem *p);
 
 uint32_t library(const struct problem *p, uint8_t *answer);
 

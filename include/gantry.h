@@ -33,9 +33,11 @@ extern "C" {
 #define GANTRY_IMAGE_BYTES(n, nx, nr) (4 * (size_t)GANTRY_IMAGE_WORDS(n, nx, nr))
 #define GANTRY_PAGE_BYTES(n, nx, nr) (44 * (size_t)GANTRY_DESIGN_NUMBERS(n, nx, nr))
 #define GANTRY_STATE_BYTES(nx) (4 * (size_t)(nx))
+#define GANTRY_RANGES_BYTES(nx) (8 * (size_t)(nx))
 #define GANTRY_TARGET_BYTES(nr) (4 * (size_t)(nr))
 #define GANTRY_START_BYTES(n) (4 * (size_t)(n))
 #define GANTRY_ANSWER_BYTES(n) (8 * (size_t)(n) + 8)
+#define GANTRY_RANGE_ANSWER_BYTES(n) (8 * (size_t)(n))
 /* What a commit writes: the commands of one step. */
 #define GANTRY_COMMANDS_BYTES(nu) (4 * (size_t)(nu))
 /* A drive, whatever its image and its number of heads, which is 1 to GANTRY_MAX_HEADS. */
@@ -45,7 +47,7 @@ extern "C" {
 #define GANTRY_MAX_IMAGE_BYTES GANTRY_IMAGE_BYTES(GANTRY_MAX_COMMANDS, GANTRY_MAX_STATES, GANTRY_MAX_TARGETS)
 #define GANTRY_MAX_PAGE_BYTES GANTRY_PAGE_BYTES(GANTRY_MAX_COMMANDS, GANTRY_MAX_STATES, GANTRY_MAX_TARGETS)
 
-/* Stack enough for any call: the compiled archive takes about 8.5 KiB at most, read off its machine code (README has the
+/* Stack enough for any call: the compiled archive takes 10 KiB at most, read off its machine code (README has the
  * figures), and the rest is for the memcpy and memset that the firmware supplies. */
 #define GANTRY_STACK_BYTES 12288
 
@@ -64,7 +66,7 @@ enum gantry_number {
     GANTRY_TOO_STEEP = 10,     /* a row's diagonal plus the other magnitudes is above 2^b */
     GANTRY_BAD_MOMENTUM = 11,  /* the step factor is out of its range, or too small for the table */
     GANTRY_NO_HEADROOM = 12,   /* an intermediate value could leave the word */
-    GANTRY_BAD_STATE = 13,     /* not nx words, or a value beyond its limit */
+    GANTRY_BAD_STATE = 13,     /* not nx words, or a value beyond its limit; ranges: not 2nx, or a low above its high */
     GANTRY_BAD_START = 14,     /* not n words, or a command outside its limits */
     GANTRY_BAD_BUFFER = 15,    /* the buffer to be written, a drive among them, has another length than what is due */
     GANTRY_BAD_TARGET = 16,    /* not nr words, or a value beyond its limit; tested directly after 13 */
@@ -108,6 +110,22 @@ uint32_t gantry_cold_start(const uint8_t *image, size_t image_len, uint8_t *star
 uint32_t gantry_solve(const uint8_t *image, size_t image_len, const uint8_t *state, size_t state_len,
                       const uint8_t *target, size_t target_len, const uint8_t *start, size_t start_len,
                       uint8_t *answer, size_t answer_len);
+
+/* The solve of a state that is known only within ranges, as worn encoders give it: carries a lowest and a highest value
+ * through the image's sweeps and writes 8n bytes, GANTRY_RANGE_ANSWER_BYTES: the n lowest commands, then the n highest, as
+ * signed big-endian 32-bit words in counts of 2^-b; no bounds and no D. The ranges are nx low words, then nx high words,
+ * GANTRY_RANGES_BYTES, signed big-endian as a state; both ends belong to a range. Target, start, numbers and the order of
+ * the checks are those of gantry_solve: 13 is another length of the ranges, a low above its high, or an end beyond plus or
+ * minus the state limit.
+ * With 0:
+ * - for every state within the ranges gantry_solve with this image, target and start, and a buffer of its own length, is
+ *   accepted, and each of its commands lies between the lowest and the highest of that command, after each sweep;
+ * - ranges of one value, each low its high, give that solve's commands twice;
+ * - lowest and highest lie within the limits of the command's own step, so each n of them are again a start.
+ * No command lies outside; but the two may be further apart than the commands of all states within the ranges are. */
+uint32_t gantry_range_solve(const uint8_t *image, size_t image_len, const uint8_t *ranges, size_t ranges_len,
+                            const uint8_t *target, size_t target_len, const uint8_t *start, size_t start_len,
+                            uint8_t *answer, size_t answer_len);
 
 /* ---- drives: ask first, then commit
  *
