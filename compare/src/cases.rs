@@ -1,11 +1,12 @@
 //! Document 01's cases at the edges as one table, the starred ones among them, and a few of our own behind them: edges
-//! that it implies, and those of requests 1 to 10. The figures of ours are worked out by hand from the papers. Solves
-//! that come to rest are a table of their own, and so are the scripts of requests 9 and 10.
+//! that it implies, and those of requests 1 to 12. The figures of ours are worked out by hand from the papers. Solves
+//! that come to rest are a table of their own, and so are the scripts of requests 9 to 11 and the ranges of request 12.
 
 mod distance;
 mod heads;
 mod made;
 mod nearest;
+mod ranges;
 mod rest;
 mod script;
 mod shares;
@@ -13,6 +14,7 @@ mod stop;
 mod sums;
 
 pub use nearest::with_ties;
+pub use ranges::{RangeCase, of_solves, run_range, table as ranges};
 pub use rest::{Rest, rests, table as at_rest};
 pub use script::{Answers, Script, answers, run_script};
 

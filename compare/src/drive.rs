@@ -4,7 +4,7 @@ use crate::double::{self, Rounding};
 use crate::image::{Number, bytes};
 use crate::made::{self, MADE_LEN};
 use crate::rules::Rules;
-use crate::{page, sheet, solve};
+use crate::{page, ranges, sheet, solve};
 
 #[derive(Clone, Copy, Debug, PartialEq, Eq)]
 pub enum Kind {
@@ -12,6 +12,7 @@ pub enum Kind {
     Page,
     ColdStart,
     Solve,
+    RangeSolve,
     Make,
     Ask,
     Commit,
@@ -40,6 +41,7 @@ impl Kind {
             Kind::Page => "page",
             Kind::ColdStart => "cold_start",
             Kind::Solve => "solve",
+            Kind::RangeSolve => "range_solve",
             Kind::Make => "make",
             Kind::Ask => "ask",
             Kind::Commit => "commit",
@@ -62,6 +64,7 @@ impl Kind {
             Kind::Commit | Kind::Done => (&["head"], &[]),
             Kind::Period => (&["sweeps"], &[]),
             Kind::Solve => (&[], &["image", "state", "target", "start"]),
+            Kind::RangeSolve => (&[], &["image", "ranges", "target", "start"]),
             Kind::ToWord => (&["bits", "b", "w", "how"], &[]),
             Kind::Inward => (&["low_bits", "high_bits", "b", "w"], &[]),
             Kind::ToDouble => (&["value", "b", "w"], &[]),
@@ -182,7 +185,7 @@ pub trait Drive {
     }
 }
 
-/// The outcome of a call without a made drive by document 01 with requests 1 to 8, or that of a false economy.
+/// The outcome of a call without a made drive by document 01 with requests 1 to 8 and 12, or that of a false economy.
 pub fn outcome(kind: Kind, numbers: &[u64], inputs: &[&[u8]], out_len: usize, rules: Rules) -> Outcome {
     let result = match (kind, inputs) {
         (Kind::Intake, [sheet]) => sheet::intake_call(sheet, out_len, rules),
@@ -190,6 +193,9 @@ pub fn outcome(kind: Kind, numbers: &[u64], inputs: &[&[u8]], out_len: usize, ru
         (Kind::ColdStart, [image]) => solve::cold_start_call(image, out_len, rules),
         (Kind::Solve, &[image, state, target, start]) => {
             solve::solve_call([image, state, target, start], out_len, rules)
+        }
+        (Kind::RangeSolve, &[image, ranges, target, start]) => {
+            ranges::range_call([image, ranges, target, start], out_len, rules)
         }
         _ => return conversion(kind, numbers),
     };
@@ -267,6 +273,18 @@ mod linked {
             answer: *mut u8,
             answer_len: usize,
         ) -> u32;
+        fn gantry_range_solve(
+            image: *const u8,
+            image_len: usize,
+            ranges: *const u8,
+            ranges_len: usize,
+            target: *const u8,
+            target_len: usize,
+            start: *const u8,
+            start_len: usize,
+            answer: *mut u8,
+            answer_len: usize,
+        ) -> u32;
         fn gantry_make(image: *const u8, image_len: usize, heads: u32, drive: *mut u8, drive_len: usize) -> u32;
         fn gantry_ask(
             drive: *mut u8,
@@ -302,6 +320,18 @@ mod linked {
                         image.len(),
                         state.as_ptr(),
                         state.len(),
+                        target.as_ptr(),
+                        target.len(),
+                        start.as_ptr(),
+                        start.len(),
+                        to,
+                        room,
+                    ),
+                    (Kind::RangeSolve, [image, ranges, target, start]) => gantry_range_solve(
+                        image.as_ptr(),
+                        image.len(),
+                        ranges.as_ptr(),
+                        ranges.len(),
                         target.as_ptr(),
                         target.len(),
                         start.as_ptr(),

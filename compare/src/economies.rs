@@ -1,4 +1,4 @@
-//! The false economies and lazy drives of document 01, those of requests 1 to 11, and those that end a solve too
+//! The false economies and lazy drives of document 01, those of requests 1 to 12, and those that end a solve too
 //! early. Each must be found on the table of cases: a comparison that cannot fail is worthless.
 
 mod distance;
@@ -6,11 +6,12 @@ mod labels;
 mod loops;
 mod made;
 mod nearest;
+mod ranges;
 mod rest;
 mod stop;
 mod sums;
 
-use crate::cases::{self, Answers, Case, Script};
+use crate::cases::{self, Answers, Case, RangeCase, Script};
 use crate::double::{Rounding, of_count, to_word};
 use crate::drive::{Drive, Kind, Reference};
 use crate::former::{Former, Without};
@@ -40,6 +41,8 @@ enum Table {
     Solves,
     /// The solves that come to rest.
     AtRest,
+    /// The range solves.
+    Ranges,
 }
 
 impl Drive for Economy {
@@ -128,6 +131,7 @@ fn economies() -> Vec<Economy> {
     economies.extend(on_pages());
     economies.extend(without_pages());
     economies.extend(rest::economies());
+    economies.extend(ranges::economies());
     economies
 }
 
@@ -552,6 +556,7 @@ pub fn count() -> u64 {
 pub struct Tables {
     pub cases: Vec<Case>,
     pub at_rest: Vec<Case>,
+    pub ranges: Vec<RangeCase>,
     /// With what is right.
     pub scripts: Vec<(Script, Answers)>,
 }
@@ -559,7 +564,7 @@ pub struct Tables {
 pub fn run(harness: &mut Harness, index: u64, tables: &Tables) {
     let (economies, made, index) = (economies(), made::economies(), index as usize);
     let (name, differences) = if let Some(economy) = economies.get(index) {
-        (&economy.name, differences(economy, &tables.cases, &tables.at_rest))
+        (&economy.name, differences(economy, tables))
     } else if let Some(economy) = made.get(index - economies.len()) {
         (&economy.name, economy.differences(&tables.scripts))
     } else {
@@ -574,23 +579,26 @@ fn found(harness: &mut Harness, name: &str, differences: u64) {
     harness.check(differences > 0, || format!("  {name} is not found"));
 }
 
-/// Drives that end their loops where they may are not to be found.
-pub fn right_ends_agree(harness: &mut Harness) {
-    let at_rest = cases::at_rest();
-    for economy in rest::right() {
-        let differences = differences(&economy, &[], &at_rest);
+/// Drives that end their loops where they may, or take other ways to the same ends, are not to be found.
+pub fn right_drives_agree(harness: &mut Harness) {
+    let (at_rest, ranges) = (cases::at_rest(), cases::ranges());
+    let tables = Tables { cases: Vec::new(), at_rest, ranges, scripts: Vec::new() };
+    for economy in rest::right().into_iter().chain(ranges::right()) {
+        let differences = differences(&economy, &tables);
         harness.check(differences == 0, || format!("  a drive that {} is found: {differences}", economy.name));
     }
 }
 
-fn differences(economy: &Economy, table: &[Case], at_rest: &[Case]) -> u64 {
+fn differences(economy: &Economy, tables: &Tables) -> u64 {
     let mut scratch = Harness::quiet(economy);
+    let Tables { cases, at_rest, ranges, .. } = tables;
     match economy.found_on {
-        Table::Cases => table.iter().for_each(|case| cases::run(&mut scratch, case)),
+        Table::Cases => cases.iter().for_each(|case| cases::run(&mut scratch, case)),
         Table::Solves => {
-            table.iter().filter(|case| case.has_image()).for_each(|case| cases::run_solve(&mut scratch, case))
+            cases.iter().filter(|case| case.has_image()).for_each(|case| cases::run_solve(&mut scratch, case))
         }
         Table::AtRest => at_rest.iter().for_each(|case| cases::run_solve(&mut scratch, case)),
+        Table::Ranges => ranges.iter().for_each(|case| cases::run_range(&mut scratch, case)),
     }
     scratch.failed
 }

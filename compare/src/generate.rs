@@ -1,5 +1,9 @@
 //! Random problems that every check accepts, and near misses of each number made from them on purpose.
 
+mod ranges;
+
+pub use ranges::{few_ranges, inside, lent, range_case, range_len, state_inside};
+
 use crate::double::{Rounding, of_count};
 use crate::draft::{Draft, keep_former, text};
 use crate::edges;
@@ -18,6 +22,7 @@ pub const INTAKE_NUMBERS: [Number; 13] = [1, 2, 3, 4, 5, 7, 17, 8, 9, 10, 11, 12
 pub const PAGE_NUMBERS: [Number; 13] = INTAKE_NUMBERS;
 pub const COLD_START_NUMBERS: [Number; 11] = [3, 5, 6, 7, 17, 8, 9, 10, 11, 12, 15];
 pub const SOLVE_NUMBERS: [Number; 14] = [3, 5, 6, 7, 17, 8, 9, 10, 11, 12, 13, 16, 14, 15];
+pub const RANGE_SOLVE_NUMBERS: [Number; 14] = SOLVE_NUMBERS;
 pub const MAKE_NUMBERS: [Number; 11] = COLD_START_NUMBERS;
 /// Those of the image and of the start where something else than the calls wrote to the drive.
 pub const ASK_NUMBERS: [Number; 15] = [3, 5, 6, 7, 17, 8, 9, 10, 11, 12, 13, 16, 14, 15, 20];

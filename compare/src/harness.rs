@@ -55,8 +55,8 @@ impl Lent {
     }
 }
 
-/// Bytes that no call answers by chance.
-fn untouched(length: usize) -> Vec<u8> {
+/// Bytes that no call answers by chance: what is in an output buffer before the call.
+pub fn untouched(length: usize) -> Vec<u8> {
     (0..length).map(|i| (i * 37 + 0x5B) as u8).collect()
 }
 
@@ -86,6 +86,33 @@ fn observe(drive: &dyn Drive, call: &Call) -> Result<Outcome, String> {
     Ok(Outcome { number, written: (after != before).then(|| after.to_vec()), made: made.content().to_vec() })
 }
 
+/// What accepted calls had.
+#[derive(Default)]
+pub struct Covered {
+    pub sizes: BTreeSet<Vec<i64>>,
+    /// b and W.
+    pub formats: BTreeSet<Vec<i64>>,
+    /// n and nr.
+    pub targets: BTreeSet<(i64, i64)>,
+    /// nx and nr.
+    pub inputs: BTreeSet<(i64, i64)>,
+    /// The nu and N of those whose limits change from step to step.
+    pub changing: BTreeSet<(i64, i64)>,
+}
+
+impl Covered {
+    fn insert(&mut self, problem: &Problem) {
+        let header = problem.sizes.words();
+        self.sizes.insert(header[..3].to_vec());
+        self.formats.insert(header[3..5].to_vec());
+        self.targets.insert((header[0] * header[1], header[6]));
+        self.inputs.insert((header[2], header[6]));
+        if problem.limits_change() {
+            self.changing.insert((header[0], header[1]));
+        }
+    }
+}
+
 pub struct Harness<'a> {
     pub drive: &'a dyn Drive,
     pub seed: u64,
@@ -93,20 +120,16 @@ pub struct Harness<'a> {
     pub failed: u64,
     /// Comparisons for each call and number.
     pub met: BTreeMap<&'static str, [u64; NUMBERS]>,
-    /// The sizes, the b and W, the n and nr, and the nx and nr of random accepted solves.
-    pub sizes: BTreeSet<Vec<i64>>,
-    pub formats: BTreeSet<Vec<i64>>,
-    pub targets: BTreeSet<(i64, i64)>,
-    pub inputs: BTreeSet<(i64, i64)>,
-    /// The nu and N of those whose limits change from step to step.
-    pub changing: BTreeSet<(i64, i64)>,
+    /// Of random accepted solves, and of random accepted range solves.
+    pub solved: Covered,
+    pub ranged: Covered,
     /// The head, and the nu and N of made drives whose answers were committed in random runs.
     pub committed: BTreeSet<(u32, usize, usize)>,
     /// The nu and N of new images in them.
     pub renewed: BTreeSet<(usize, usize)>,
     /// How often a random solve lay at an edge of check 12 or 17, came to rest in some way, had a D or an optimum of
-    /// some kind, or was another than before request 4 or 6, a random sheet another than before request 7, and a random
-    /// run came by an edge of request 9, 10 or 11.
+    /// some kind, or was another than before request 4 or 6, a random sheet another than before request 7, a random run
+    /// came by an edge of request 9, 10 or 11, and a random range solve by one of request 12.
     pub edges: BTreeMap<&'static str, u64>,
     /// What became of the numbers of tables in random sheets.
     pub tables: BTreeSet<TableEdge>,
@@ -126,11 +149,8 @@ impl<'a> Harness<'a> {
             passed: 0,
             failed: 0,
             met: BTreeMap::new(),
-            sizes: BTreeSet::new(),
-            formats: BTreeSet::new(),
-            targets: BTreeSet::new(),
-            inputs: BTreeSet::new(),
-            changing: BTreeSet::new(),
+            solved: Covered::default(),
+            ranged: Covered::default(),
             committed: BTreeSet::new(),
             renewed: BTreeSet::new(),
             edges: BTreeMap::new(),
@@ -165,6 +185,7 @@ impl<'a> Harness<'a> {
             (Kind::Solve, None) if self.is_random() && matches!(expected.number, 12 | 17) => {
                 self.cover_edges(&problem_of(&call.inputs[0]), expected.number);
             }
+            (Kind::RangeSolve, Some(_)) if self.is_random() => self.ranged.insert(&problem_of(&call.inputs[0])),
             (Kind::Page, Some(page)) => self.cover_page(&call.inputs[0], page),
             (Kind::Intake | Kind::Page, None) if self.is_random() && expected.number == 5 => {
                 self.cover_refused(&call.inputs[0]);
@@ -183,14 +204,7 @@ impl<'a> Harness<'a> {
 
     fn cover_solve(&mut self, lent: &[Vec<u8>], answer: &[u8]) {
         let problem = problem_of(&lent[0]);
-        let header = problem.sizes.words();
-        self.sizes.insert(header[..3].to_vec());
-        self.formats.insert(header[3..5].to_vec());
-        self.targets.insert((header[0] * header[1], header[6]));
-        self.inputs.insert((header[2], header[6]));
-        if problem.limits_change() {
-            self.changing.insert((header[0], header[1]));
-        }
+        self.solved.insert(&problem);
         self.cover_edges(&problem, 0);
         let (inputs, commands) = ([words(&lent[1]), words(&lent[2])].concat(), words(&answer[..lent[3].len()]));
         self.meet_edges(distance::edges(&problem, &inputs, &commands));
@@ -264,7 +278,7 @@ impl<'a> Harness<'a> {
 }
 
 /// What the tables of an image say whose sizes and length are right.
-fn problem_of(image: &[u8]) -> Problem {
+pub fn problem_of(image: &[u8]) -> Problem {
     let words = words(image);
     let (header, body) = words.split_at(HEADER_WORDS);
     Problem::new(Sizes::of_words(header).expect("the sizes are right"), body, Rules::default())

@@ -1,4 +1,4 @@
-//! The second program: document 01 with requests 1 to 11 implemented on its own, beside the static library, the label
+//! The second program: document 01 with requests 1 to 12 implemented on its own, beside the static library, the label
 //! program and the page program.
 
 mod big;
@@ -20,6 +20,7 @@ mod page;
 mod plain;
 mod process;
 mod random;
+mod ranges;
 mod rest;
 mod rules;
 mod runs;
@@ -33,7 +34,7 @@ use std::process::ExitCode;
 use std::time::Instant;
 
 use drive::Drive;
-use harness::{Harness, NUMBERS};
+use harness::{Covered, Harness, NUMBERS};
 use image::Number;
 
 const USAGE: &str = "compare [--seed N] [--count N | --long] [--only GROUP:INDEX] [--self] [--work FOLDER]
@@ -43,7 +44,7 @@ const COUNT: u64 = 100_000;
 const LONG_COUNT: u64 = 20 * COUNT;
 /// From this count on a run has to have met every number of every call, every size, every nr with every n and with every
 /// nx, limits that change along every N, every edge of checks 12 and 17, every way to round a table, every way to come to
-/// rest, every kind of D and of optimum, all that requests 4, 6 and 7 change, and every edge of requests 9 to 11.
+/// rest, every kind of D and of optimum, all that requests 4, 6 and 7 change, and every edge of requests 9 to 12.
 const COVERING_COUNT: u64 = 20_000;
 
 struct Options {
@@ -156,11 +157,12 @@ fn print_numbers(harness: &Harness) {
 fn require_cover(harness: &mut Harness) {
     harness.enter("cover", 0);
     let conversions: [Number; 1] = [5];
-    let can: [(&str, &[Number]); 15] = [
+    let can: [(&str, &[Number]); 16] = [
         ("intake", &generate::INTAKE_NUMBERS),
         ("page", &generate::PAGE_NUMBERS),
         ("cold_start", &generate::COLD_START_NUMBERS),
         ("solve", &generate::SOLVE_NUMBERS),
+        ("range_solve", &generate::RANGE_SOLVE_NUMBERS),
         ("make", &generate::MAKE_NUMBERS),
         ("ask", &generate::ASK_NUMBERS),
         ("commit", &generate::COMMIT_NUMBERS),
@@ -191,6 +193,11 @@ fn require_cover(harness: &mut Harness) {
     }
     require_tables(harness);
     require_runs(harness);
+    for edge in trials::range_edges() {
+        let met = harness.edges.get(edge).copied().unwrap_or(0);
+        println!("random range solves, {edge}: {met}");
+        harness.check(met > 0, || format!("  no random range solve: {edge}"));
+    }
 }
 
 /// What requests 9 to 11 are about.
@@ -221,15 +228,20 @@ fn require_tables(harness: &mut Harness) {
     }
 }
 
+fn counts((name, covered): (&'static str, &Covered)) -> (&'static str, [usize; 5]) {
+    let Covered { sizes, formats, targets, inputs, changing } = covered;
+    (name, [sizes.len(), formats.len(), targets.len(), inputs.len(), changing.len()])
+}
+
 fn require_problems(harness: &mut Harness) {
-    let covered = [harness.sizes.len(), harness.formats.len(), harness.targets.len(), harness.inputs.len()];
-    let [sizes, formats, targets, inputs] = covered;
-    println!("random accepted solves: {sizes} of 396 sizes, {formats} of 320 pairs of b and W");
-    println!("random accepted solves: {targets} of 80 pairs of n and nr, {inputs} of 60 of nx and nr");
-    harness.check(covered == [396, 320, 80, 60], || "  some sizes were never solved".to_string());
-    let changing = harness.changing.len();
-    println!("random accepted solves with limits that change: {changing} of 29 pairs of nu and N above 1");
-    harness.check(changing == 29, || "  some steps never had limits of their own".to_string());
+    for (name, covered) in [("solves", &harness.solved), ("range solves", &harness.ranged)].map(counts) {
+        let [sizes, formats, targets, inputs, changing] = covered;
+        println!("random accepted {name}: {sizes} of 396 sizes, {formats} of 320 pairs of b and W");
+        println!("random accepted {name}: {targets} of 80 pairs of n and nr, {inputs} of 60 of nx and nr");
+        println!("random accepted {name} with limits that change: {changing} of 29 pairs of nu and N above 1");
+        harness
+            .check(covered == [396, 320, 80, 60, 29], || format!("  {name} never had some sizes, or changing limits"));
+    }
     println!("accepted pages: {} of 16 pairs of kind and mark", harness.marks.len());
     for (kind, mark) in (b'2'..=b'9').flat_map(|kind| [(kind, b'K'), (kind, b'M')]) {
         let met = harness.marks.contains(&(kind, mark));

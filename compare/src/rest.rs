@@ -2,12 +2,13 @@
 //! of e and q alone: once it leaves both lists as they were, all later sweeps do.
 
 use crate::image::Problem;
+use crate::ranges::Carried;
 use crate::solve::{ErrorBound, Rounded};
 
 /// z and y, or e and q.
 pub type Pair = [Vec<i64>; 2];
 
-/// A loop of sweeps: the commands' or the bounds'.
+/// A loop of sweeps: the commands', the bounds' or that of both ends.
 pub trait Scheme {
     fn sweep(&mut self);
     fn pair(&self) -> Pair;
@@ -30,6 +31,17 @@ impl Scheme for ErrorBound<'_> {
 
     fn pair(&self) -> Pair {
         [self.e.clone(), self.point.clone()]
+    }
+}
+
+/// Both ends in one list: a sweep makes the four of them out of each other.
+impl Scheme for Carried<'_> {
+    fn sweep(&mut self) {
+        self.step();
+    }
+
+    fn pair(&self) -> Pair {
+        [self.z.concat(), self.y.concat()]
     }
 }
 
@@ -113,7 +125,7 @@ impl Courses {
 }
 
 /// Does some sweep leave one of the two lists and change the other, and is z, or e, another at the end?
-fn is_still(course: &[Pair], list: usize) -> bool {
+pub fn is_still(course: &[Pair], list: usize) -> bool {
     let [end, _] = &course[course.len() - 1];
     course.windows(2).any(|sweep| {
         let [old, new] = [&sweep[0], &sweep[1]];

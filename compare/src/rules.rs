@@ -1,5 +1,6 @@
 //! Where a false economy departs from the rules of document 01 and requests 1, 3, 4, 5, 6 and 7; those of requests
-//! 2 and 8 change the page and D alone, and those of requests 9 and 10 what is done to a made drive.
+//! 2 and 8 change the page and D alone, those of requests 9 to 11 what is done to a made drive, and those of request 12
+//! have ways of their own.
 
 use crate::image::{Problem, Sizes};
 

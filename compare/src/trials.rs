@@ -1,12 +1,16 @@
 //! The groups of trials. A trial draws from its own random stream, so that any one can be run alone.
 
+mod ranges;
+
+pub use ranges::edges as range_edges;
+
 use std::cmp::Ordering;
 use std::fs::{canonicalize, create_dir_all};
 use std::path::Path;
 use std::rc::Rc;
 
 use crate::big::Big;
-use crate::cases::{self, Rest};
+use crate::cases::{self, RangeCase, Rest};
 use crate::distance::distance;
 use crate::double::{self, Rounding};
 use crate::draft::Draft;
@@ -61,6 +65,7 @@ pub fn groups(count: u64, has_conversions: bool, work: &Path) -> Vec<Group> {
         group("optimum", count / 25, optimum),
         group("rest", count / 100, rest),
         group("former", count / 50, former),
+        group("ranges", count / 6, ranges::trial),
         group("periods", 4 * 256, runs::every_period),
         group("runs", count / 5, runs::trial),
     ];
@@ -89,10 +94,13 @@ fn groups_of_tables() -> [Group; 2] {
         (script, answers)
     });
     let scripts = scripts.collect();
-    let tables = Rc::new(Tables { cases: cases::table(), at_rest: cases::at_rest(), scripts });
-    let count = tables.cases.len() + tables.at_rest.len() + tables.scripts.len();
+    let (cases, at_rest) = (cases::table(), cases::at_rest());
+    let as_ranges = [cases::of_solves(&cases), cases::of_solves(&at_rest)].concat();
+    let tables = Rc::new(Tables { cases, at_rest, ranges: cases::ranges(), scripts });
+    let solves = tables.cases.len() + tables.at_rest.len();
+    let count = solves + tables.ranges.len() + as_ranges.len() + tables.scripts.len();
     let lent = tables.clone();
-    let case: Trial = Box::new(move |harness, index, _| case(harness, &lent, index as usize));
+    let case: Trial = Box::new(move |harness, index, _| case(harness, &lent, &as_ranges, index as usize));
     let economy: Trial = Box::new(move |harness, index, _| economies::run(harness, index, &tables));
     [
         Group { name: "cases", count: count as u64, trial: case },
@@ -100,12 +108,16 @@ fn groups_of_tables() -> [Group; 2] {
     ]
 }
 
-/// A case of the tables, then a script.
-fn case(harness: &mut Harness, tables: &Tables, index: usize) {
-    let Tables { cases, at_rest, scripts } = tables;
-    match cases.iter().chain(at_rest).nth(index) {
-        Some(case) => cases::run(harness, case),
-        None => cases::run_script(harness, &scripts[index - cases.len() - at_rest.len()].0),
+/// A case of the tables, then a range solve, those of the cases' states behind the others, then a script.
+fn case(harness: &mut Harness, tables: &Tables, as_ranges: &[RangeCase], index: usize) {
+    let Tables { cases, at_rest, ranges, scripts } = tables;
+    if let Some(case) = cases.iter().chain(at_rest).nth(index) {
+        return cases::run(harness, case);
+    }
+    let index = index - cases.len() - at_rest.len();
+    match ranges.iter().chain(as_ranges).nth(index) {
+        Some(case) => cases::run_range(harness, case),
+        None => cases::run_script(harness, &scripts[index - ranges.len() - as_ranges.len()].0),
     }
 }
 
@@ -231,10 +243,19 @@ fn victims() -> Vec<(Draft, Vec<u8>)> {
 }
 
 fn damaged_bytes() -> u64 {
-    victims().iter().map(|(draft, sheet)| (sheet.len() + draft.image().len() + MADE_LEN) as u64).sum()
+    let bytes =
+        |(draft, sheet): &(Draft, Vec<u8>)| sheet.len() + draft.image().len() + edge_ranges(draft).len() + MADE_LEN;
+    victims().iter().map(|victim| bytes(victim) as u64).sum()
 }
 
-/// Every other value of one byte of a sheet or an image, and the text or image cut there; and of a made drive.
+/// From the low limit of each state value to a count below the high one.
+fn edge_ranges(draft: &Draft) -> Vec<u8> {
+    let ranges: Vec<(i64, i64)> =
+        draft.problem().state_ranges().into_iter().map(|(low, high)| (low, low.max(high - 1))).collect();
+    generate::lent(&ranges)
+}
+
+/// Every other value of one byte of a sheet, an image or ranges, and these cut there; and of a made drive.
 fn damage(harness: &mut Harness, index: u64, _: &mut Random) {
     let (mut index, victims) = (index as usize, victims());
     for (i, (draft, sheet)) in victims.iter().enumerate() {
@@ -250,13 +271,27 @@ fn damage(harness: &mut Harness, index: u64, _: &mut Random) {
         if index < image.len() {
             let zeros = |length: usize| vec![0u8; 4 * length];
             let (state, target, start) = (zeros(draft.sizes.states), zeros(draft.sizes.targets), zeros(n));
+            let ranges = edge_ranges(draft);
             for image in damaged(&image, index) {
                 harness.compare(&Call::on_buffers(Kind::ColdStart, &[&image], 4 * n));
                 harness.compare(&Call::on_buffers(Kind::Solve, &[&image, &state, &target, &start], answer_len(n)));
+                // Their checks are a solve's: some of the victims are enough.
+                if i < 3 {
+                    harness.compare(&Call::on_buffers(Kind::RangeSolve, &[&image, &ranges, &target, &start], 8 * n));
+                }
             }
             return;
         }
         index -= image.len();
+        let ranges = edge_ranges(draft);
+        if index < ranges.len() {
+            let (target, start) = (vec![0; 4 * draft.sizes.targets], vec![0; 4 * n]);
+            for ranges in damaged(&ranges, index) {
+                harness.compare(&Call::on_buffers(Kind::RangeSolve, &[&image, &ranges, &target, &start], 8 * n));
+            }
+            return;
+        }
+        index -= ranges.len();
         if index < MADE_LEN {
             let (other, _) = &victims[(i + 1) % victims.len()];
             // Two, three or four heads.
@@ -833,7 +868,7 @@ fn itself(harness: &mut Harness, _: u64, random: &mut Random) {
     optimum_agrees(harness);
     rests_agree(harness);
     parts_agree(harness);
-    economies::right_ends_agree(harness);
+    economies::right_drives_agree(harness);
     let mut lent = Lent::new(&[1, 2, 3]);
     harness.check(lent.guards_hold(), || "  a guard does not hold by itself".to_string());
     lent.write_beside();
