@@ -52,7 +52,7 @@ table =
     answers (withSweeps 1 S) (minus 10 ∷ pos 10 ∷ []) [] (pos 0 ∷ []) (minus 10 ∷ pos 10 ∷ [])
     ∷ answers (withSweeps 2 S) (minus 10 ∷ pos 10 ∷ []) [] (pos 0 ∷ []) (minus 15 ∷ pos 15 ∷ [])
     ∷ answers S (minus 10 ∷ pos 10 ∷ []) [] (pos 0 ∷ []) (minus 18 ∷ pos 17 ∷ [])
-    -- from a start at the limit, which holds the highest alone
+    -- from a start at the high limit, where the highest stays
     ∷ answers (withSweeps 1 S) (minus 10 ∷ pos 4 ∷ []) [] (pos 20 ∷ []) (pos 6 ∷ pos 20 ∷ [])
     ∷ answers (withSweeps 2 S) (minus 10 ∷ pos 4 ∷ []) [] (pos 20 ∷ []) (minus 1 ∷ pos 20 ∷ [])
     -- a range of one value, 10: document 01's commands of S, twice
