@@ -74,6 +74,7 @@ def comment(text, names):
 def antt(path, names):
     text = path.read_text(encoding="utf-8")
     kept = {n for n, _ in declared(path)} if path.name in ("Proof.antt", "Answers.antt", "Invariants.antt") else set()
+    kept |= {n for line in re.findall(r"(?m)^use (?!Rattle\.(?!std)).*\{(.*)\}", text) for n in line.split(", ")}
     out = []
     for line in text.split("\n"):
         head = code(line)

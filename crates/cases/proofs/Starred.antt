@@ -6,7 +6,7 @@ use Rattle.integer.specs.Round.{floor, ceil, clamp}
 use Rattle.word.specs.Buffer.{joined, put_at}
 use Rattle.word.specs.Digits.{number_be, digits_be}
 use Rattle.word.specs.Word.{nat_be, bytes_be, words_at, words_out}
-use Rattle.hex.specs.Hex.{is_hex, digit_of, hexes, hex_at, digit_byte, hex_digits}
+use Rattle.hexadecimal.specs.Hex.{is_hex, digit_of, hexes, hex_at, digit_byte, hex_digits}
 use Rattle.double.specs.Double.{scalable, rounded, accepted}
 use Rattle.gradient.specs.Problem.{F, cold_start}
 use Rattle.gradient.specs.Scheme.{linear, unclamped, next_z, next_y, step, iterate}

@@ -7,7 +7,7 @@ use lib.Dec.{T}
 use lib.Ieee.{binary64, fits, is_nan}
 use lib.Ieee.Bits.{of_bits-fits}
 use Rattle.word.specs.Format.{is_format, in_word}
-use Rattle.hex.specs.Hex.{hex_at}
+use Rattle.hexadecimal.specs.Hex.{hex_at}
 use Rattle.double.specs.Double.{HasQuotient}
 use Rattle.double.proofs.Back.{value_exact}
 use Rattle.image.specs.Sizes.{Sound}

@@ -7,7 +7,7 @@ use lib.Ieee.{binary64, to_bits}
 use lib.ListN.{take, drop}
 use Rattle.word.proofs.Buffer.{part_within}
 use Rattle.word.proofs.Joined.{part_joined}
-use Rattle.hex.specs.Hex.{hex_digits}
+use Rattle.hexadecimal.specs.Hex.{hex_digits}
 use Rattle.image.specs.Sizes.{Sound}
 use Rattle.image.specs.declared.Sizes.{Sizes}
 use Rattle.line.specs.Line.{line_at}

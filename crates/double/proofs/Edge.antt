@@ -1,6 +1,6 @@
 -- Which doubles the nearest count takes into the word: those below top + 1/2 in magnitude. Assumes nothing.
 use Rattle.std.proofs.Common.{◌≡◌, ℕ, ◌+◌, ◌*◌, ◌%◌, ◌^◌, ◌<◌, ◌≤◌, Bool, true, false, ◌&&◌, ltb, leb, nat_abs, refl, ap, ◌∙◌, subst, le_trans, lt_of_lt_of_le, mul-le-mul_right, lt_of_mul-lt-mul_right, arith, lit≤, ltb-false, ltb-true, lt-ltb, le-leb}
-use mathlib.Core.Bool.{and_false}
+use mathlib.Core.Bool.{and-false}
 use lib.Ieee.{Float, nan, inf, fin, up, down}
 use lib.Ieee.Fits.{down_pos}
 use lib.Ieee.Nearest.{closest}
@@ -31,8 +31,8 @@ beyond a t c {d} D o k h = by (ltb t c) refl (ltb c t) refl
 -- ---- of a double
 pub accepted_below : (b w : ℕ) (x : Float) → AcceptedBelow b w x
 unfolding accepted scalable rounded
-accepted_below b w nan = rw (and_false (is_format b w))
-accepted_below b w (inf s) = rw (and_false (is_format b w))
+accepted_below b w nan = rw (and-false (is_format b w))
+accepted_below b w (inf s) = rw (and-false (is_format b w))
 accepted_below b w (fin s m e) = by (is_format b w) refl (below_edge b w (fin s m e)) refl
   where
     n : ℕ
@@ -62,5 +62,5 @@ accepted_below b w (fin s m e) = by (is_format b w) refl (below_edge b w (fin s 
     by true u false h =
         let l = ltb-false (2 * n) (twice_edge w (down e)) h in
         let p : (2 * top w + 1) * down e ≤ 2 * n = omega arith in
-        rw (in_word_lem, lt-leb c (top w) (beyond n (top w) c (down_pos e) (top_odd w (le_trans (lit≤ tt) (format b w u).width_least)) near p)) (and_false (ltb n (2 ^ 1024 * down e)))
+        rw (in_word_lem, lt-leb c (top w) (beyond n (top w) c (down_pos e) (top_odd w (le_trans (lit≤ tt) (format b w u).width_least)) near p)) (and-false (ltb n (2 ^ 1024 * down e)))
     by false u r h = refl

@@ -9,8 +9,8 @@ use lib.ListN.{length, take, drop, length-append}
 use lib.Seq.{drop-append-add, length-take-le, take_at}
 use Rattle.word.specs.Buffer.{joined}
 use Rattle.word.proofs.Joined.{joined_cong, length_joined, part_joined}
-use Rattle.hex.specs.Hex.{hex_digits}
-use Rattle.hex.proofs.Hex.{hex_lt, length_hex}
+use Rattle.hexadecimal.specs.Hex.{hex_digits}
+use Rattle.hexadecimal.proofs.Hex.{hex_lt, length_hex}
 use Rattle.double.specs.Double.{double_value}
 use Rattle.image.specs.Sizes.{Sound}
 use Rattle.image.specs.declared.Sizes.{Sizes}

@@ -5,8 +5,8 @@ use Prim.Native.Nat.{ℕ, ◌+◌, ◌*◌, ◌<◌}
 use native.Mathlib.Omega.{arith}
 use lib.Ieee.{binary64, of_bits, to_bits}
 use lib.Ieee.Bits.{of_bits-to_bits, to_bits-lt}
-use Rattle.hex.specs.Hex.{hex_at, hex_digits}
-use Rattle.hex.proofs.Hex.{hex_back, hex_lt}
+use Rattle.hexadecimal.specs.Hex.{hex_at, hex_digits}
+use Rattle.hexadecimal.proofs.Hex.{hex_back, hex_lt}
 use Rattle.image.specs.Sizes.{Sound}
 use Rattle.image.specs.Layout.{sizes_of}
 use Rattle.image.specs.declared.Sizes.{Sizes}

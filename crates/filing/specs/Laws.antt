@@ -4,7 +4,7 @@ use Rattle.std.specs.Float.{binary64}
 use Rattle.std.specs.Float.Ieee.{of_bits, to_bits}
 use Rattle.word.specs.Buffer.{joined}
 use Rattle.word.specs.Word.{word_at}
-use Rattle.hex.specs.Hex.{hex_at, hex_digits}
+use Rattle.hexadecimal.specs.Hex.{hex_at, hex_digits}
 use Rattle.double.specs.Double.{double_value, HasQuotient}
 use Rattle.image.specs.declared.Sizes.{Sizes}
 use Rattle.sheet.specs.Sheet.{sheet_image}

@@ -13,8 +13,8 @@ use Rattle.word.specs.Buffer.{joined}
 use Rattle.word.specs.Word.{nat_at, pattern_at, pattern_bytes}
 use Rattle.word.proofs.Joined.{part_joined}
 use Rattle.word.proofs.Words.{nat_part, length_bytes}
-use Rattle.hex.specs.Hex.{hex_digits}
-use Rattle.hex.proofs.Hex.{length_hex}
+use Rattle.hexadecimal.specs.Hex.{hex_digits}
+use Rattle.hexadecimal.proofs.Hex.{length_hex}
 use Rattle.image.specs.Order.{or_else}
 use Rattle.image.specs.Sizes.{command_count}
 use Rattle.image.specs.Layout.{sizes_of}

@@ -1,7 +1,7 @@
 -- What document 02 says of what was before: what stayed the same with requests 1, 3 and 7, and what another byte or word in the place of nr
 -- was. What became of the sheets with N above 1 is in MoreSteps. Assumes nothing.
 use mathlib.Core.Path.{◌≡◌, refl}
-use mathlib.Core.Bool.{Bool, true, false, cond, and_false, true≢false}
+use mathlib.Core.Bool.{Bool, true, false, cond, and-false, true≢false}
 use mathlib.Core.List.{List, []}
 use Prim.Native.Nat.{ℕ, ◌/◌, ◌%◌}
 use lib.Dec.{eqb, leb}
@@ -61,7 +61,7 @@ another_byte sheet state target room h = let e = two in record { number = rw e; 
         other : (l : Line) → (fourth_byte l ≡ 0 → ⊥) → former.head_of before_targets l ≡ Unsized 2
         other End k = absurd (k refl)
         other Malformed k = absurd (k refl)
-        other (Frame kind row column bits) k = unfold former.head_of in rw (ne_eqb (bits / 0x1_0000_0000 % 256) 0 k, and_false (eqb kind 1))
+        other (Frame kind row column bits) k = unfold former.head_of in rw (ne_eqb (bits / 0x1_0000_0000 % 256) 0 k, and-false (eqb kind 1))
 
 pub another_word : (image state target start : List ℕ) (room : ℕ) → (nat_at image 24 ≡ 0 → ⊥) → WasThree image state target start room
 unfolding former.cold_number former.solve_number former.solvable_number former.image_number former.head_number

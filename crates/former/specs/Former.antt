@@ -3,7 +3,7 @@
 use Rattle.std.specs.Prelude.{ℕ, ◌+◌, ◌-◌, ◌*◌, ◌/◌, ◌%◌, ◌^◌, Bool, cond, ◌&&◌, ◌||◌, List, [], ◌∷◌, ◌++◌, map, eqb, leb, ℤ, pos, nat_abs, ◌+ℤ◌, ◌-ℤ◌, ◌*ℤ◌, Float, drop, length}
 use Rattle.std.specs.Int.Signed.{le_z}
 use Rattle.word.specs.Word.{nat_at, word_at, pattern_at, words_at, words_out, pattern_bytes}
-use Rattle.hex.specs.Hex.{hex_digits}
+use Rattle.hexadecimal.specs.Hex.{hex_digits}
 use Rattle.word.specs.Buffer.{joined}
 use Rattle.word.specs.Format.{top}
 use Rattle.double.specs.Double.{convert, converted_number, double_value, rule_of}

@@ -2,7 +2,7 @@
 -- only.
 use Rattle.std.specs.Prelude.{ℕ, ◌+◌, ◌*◌, ◌/◌, ◌%◌, ◌<◌, ◌≡◌, false, cond, List, ◌++◌, leb, Float, length, take, drop}
 use Rattle.word.specs.Word.{pattern_at, pattern_bytes}
-use Rattle.hex.specs.Hex.{hex_at}
+use Rattle.hexadecimal.specs.Hex.{hex_at}
 use Rattle.image.specs.declared.Sizes.{Sizes}
 use Rattle.image.specs.Order.{or_else}
 use Rattle.image.specs.Sizes.{command_count}

@@ -5,7 +5,7 @@ use mathlib.Core.List.{List}
 use Prim.Native.Nat.{ℕ, ◌+◌}
 use native.Mathlib.Omega.{arith}
 use lib.Dec.{eqb}
-use Rattle.hex.specs.Hex.{hex_at}
+use Rattle.hexadecimal.specs.Hex.{hex_at}
 use Rattle.image.specs.declared.Sizes.{Sizes}
 use Rattle.image.specs.Sizes.{sound, Sound}
 use Rattle.image.proofs.Sized.{sound_facts}

@@ -1,6 +1,6 @@
 -- The word of a line's double, and what a line gives where one is due. Assumes nothing.
 use mathlib.Core.Path.{◌≡◌, refl, ap, ◌∙◌}
-use mathlib.Core.Bool.{Bool, true, false, cond, ◌&&◌, and_false, false≢true}
+use mathlib.Core.Bool.{Bool, true, false, cond, ◌&&◌, and-false, false≢true}
 use Prim.Native.Nat.{ℕ}
 use native.Mathlib.Omega.{arith}
 use lib.IntN.{ℤ, pos, negsuc}
@@ -85,7 +85,7 @@ module _ (z : Sizes) (kind : ℕ) (x : Float) where
   -- a NaN has none
   pub nan_refused : x ≡ nan → word_of z kind x ≡ Refused
   unfolding word_of accepted scalable
-  nan_refused e = rw (e, and_false (is_format z.b z.w)) (either (is_input_limit kind))
+  nan_refused e = rw (e, and-false (is_format z.b z.w)) (either (is_input_limit kind))
     where
       either : (t : Bool) → cond t Refused Refused ≡ Refused
       either true = refl

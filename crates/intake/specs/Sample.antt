@@ -4,7 +4,7 @@ use Rattle.std.specs.Float.Ieee.{of_bits}
 use Rattle.integer.specs.Round.{floor, ceil}
 use Rattle.word.specs.Digits.{number_be, digits_be}
 use Rattle.word.specs.Word.{nat_be, bytes_be, words_at, words_out}
-use Rattle.hex.specs.Hex.{is_hex, digit_of, hexes, hex_at, digit_byte, hex_digits}
+use Rattle.hexadecimal.specs.Hex.{is_hex, digit_of, hexes, hex_at, digit_byte, hex_digits}
 use Rattle.double.specs.Double.{scalable, rounded, accepted}
 use Rattle.gradient.specs.Problem.{F}
 use Rattle.gradient.specs.Bounds.{magnitude, width, weight, range_p, range_y, range_a, range_b}

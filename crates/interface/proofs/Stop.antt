@@ -1,5 +1,5 @@
 -- "Stop must be possible": the cold start is all zeros, and an accepted start; Y alone decides of P and Y. Assumes nothing.
-use mathlib.Core.Bool.{Bool, true, false, ◌&&◌, and_false}
+use mathlib.Core.Bool.{Bool, true, false, ◌&&◌, and-false}
 use mathlib.Core.List.{List, [], ◌∷◌, map}
 use mathlib.Core.Path.{◌≡◌, refl, sym, ap, ◌∙◌}
 use Prim.Native.Nat.{ℕ, suc, ◌*◌}
@@ -82,5 +82,5 @@ module _ (z : Sizes) (s : List ℕ) (i : ℕ) (e : stop_test z s i ≡ true) whe
   y_decides = by (leb (range_y p r) (top z.w)) refl
     where
       by : (t : Bool) → leb (range_y p r) (top z.w) ≡ t → leb (range_p p r) (top z.w) && t ≡ t
-      by false q = and_false (leb (range_p p r) (top z.w))
+      by false q = and-false (leb (range_p p r) (top z.w))
       by true q = rw (le-leb (range_p p r) (top z.w) (omega (arith, range_p_range_y p r zero_inside, leb-true (range_y p r) (top z.w) q)))

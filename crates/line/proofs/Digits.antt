@@ -10,8 +10,8 @@ use lib.Seq.{get_or_at}
 use borrow.Author.Tests.{eq-eqb}
 use Rattle.integer.proofs.Tests.{both}
 use Rattle.word.proofs.Buffer.{get_d_part, part_between, part_within}
-use Rattle.hex.specs.Hex.{hex_at, hex_digits, hexes}
-use Rattle.hex.proofs.Hex.{digits_back, frame_digits, hex_back, hexes_back, hexes_part, hexes_split, length_hex}
+use Rattle.hexadecimal.specs.Hex.{hex_at, hex_digits, hexes}
+use Rattle.hexadecimal.proofs.Hex.{digits_back, frame_digits, hex_back, hexes_back, hexes_part, hexes_split, length_hex}
 use Rattle.line.specs.declared.Line.TheVariants.{Frame}
 use Rattle.line.specs.Line.{is_frame, line_at}
 use Rattle.line.proofs.Laws.{a_frame, frame_end}

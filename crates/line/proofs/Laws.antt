@@ -1,6 +1,6 @@
 -- A line by its tests. Assumes nothing.
 use mathlib.Core.Path.{◌≡◌, refl, sym, ap, ◌∙◌}
-use mathlib.Core.Bool.{Bool, true, false, cond, and_false, false≢true}
+use mathlib.Core.Bool.{Bool, true, false, cond, and-false, false≢true}
 use mathlib.Core.List.{List}
 use Prim.Native.Nat.{ℕ, zero, suc, ◌+◌, ◌≤◌, ◌<◌}
 use native.Mathlib.Nat.{add-zero}
@@ -12,7 +12,7 @@ use lib.ListN.{length, take, length-take, get_or-eq_default}
 use Rattle.line.specs.declared.Line.{Line}
 use Rattle.line.specs.declared.Line.TheVariants.{Frame, Malformed, End}
 use Rattle.line.specs.Line.{is_frame, frame_at, line_at, line_number, number_at}
-use Rattle.hex.specs.Hex.{digit_of, hexes, hex_at}
+use Rattle.hexadecimal.specs.Hex.{digit_of, hexes, hex_at}
 use Rattle.word.proofs.Digits.{number_cong}
 
 -- the line has the number that its tests give
@@ -45,7 +45,7 @@ module _ (s : List ℕ) (at : ℕ) where
 
 -- "a cut line" is no frame
 pub cut_frame : (s : List ℕ) (at : ℕ) → length s < at + 23 → is_frame s at ≡ false
-cut_frame s at h = rw (get_or-eq_default s 0 {n = at + 22} (omega arith)) (and_false (hexes 22 s at))
+cut_frame s at h = rw (get_or-eq_default s 0 {n = at + 22} (omega arith)) (and-false (hexes 22 s at))
 
 -- what a line has that neither case without a frame has
 pub framed : (P : Line → Type 0) (s : List ℕ) (at : ℕ) → (P End → ⊥) → (P Malformed → ⊥) → P (line_at s at) → (is_frame s at ≡ true) × P (frame_at s at)

@@ -1,6 +1,6 @@
 -- Document 01, "The design sheet": what stands at a place of the text. Definitions only.
 use Rattle.std.specs.Prelude.{ℕ, ◌+◌, Bool, ◌&&◌, cond, List, length, get_or, leb, eqb}
-use Rattle.hex.specs.Hex.{hexes, hex_at}
+use Rattle.hexadecimal.specs.Hex.{hexes, hex_at}
 use Rattle.line.specs.declared.Line.{Line}
 use Rattle.line.specs.declared.Line.TheVariants.{Frame, Malformed, End}
 

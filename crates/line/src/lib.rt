@@ -27,17 +27,17 @@ pub fn line_at(s: &[u8], at: usize) -> Line
     if s.len() - at < 23 {
         return Line::Malformed; // a cut line
     }
-    if !hex::are_hex(s, at, 22) {
+    if !hexadecimal::are_hex(s, at, 22) {
         return Line::Malformed;
     }
     if s[at + 22] != 10 {
         return Line::Malformed;
     }
     Line::Frame {
-        kind: hex::hex_at(s, at, 2) as usize,
-        row: hex::hex_at(s, at + 2, 2) as usize,
-        column: hex::hex_at(s, at + 4, 2) as usize,
-        bits: hex::hex_at(s, at + 6, 16),
+        kind: hexadecimal::hex_at(s, at, 2) as usize,
+        row: hexadecimal::hex_at(s, at + 2, 2) as usize,
+        column: hexadecimal::hex_at(s, at + 4, 2) as usize,
+        bits: hexadecimal::hex_at(s, at + 6, 16),
     }
 }
 

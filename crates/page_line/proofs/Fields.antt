@@ -5,8 +5,8 @@ use Prim.Native.Nat.{ℕ}
 use lib.Ieee.{binary64, to_bits}
 use lib.ListN.{take, drop, length-append}
 use Rattle.word.proofs.Buffer.{part_between}
-use Rattle.hex.specs.Hex.{hex_digits}
-use Rattle.hex.proofs.Hex.{length_hex}
+use Rattle.hexadecimal.specs.Hex.{hex_digits}
+use Rattle.hexadecimal.proofs.Hex.{length_hex}
 use Rattle.frame.specs.declared.Due.{Due}
 use Rattle.page_line.specs.declared.Effect.{Effect}
 use Rattle.page_line.specs.Effect.{given, kept, line_text, mark}

@@ -7,8 +7,8 @@ use lib.Ieee.{Float, binary64, to_bits}
 use lib.ListN.{length, set, length-append}
 use Rattle.word.specs.Buffer.{put_at}
 use Rattle.word.proofs.Buffer.{put_next, set_next}
-use Rattle.hex.specs.Hex.{hex_digits}
-use Rattle.hex.proofs.Hex.{length_hex}
+use Rattle.hexadecimal.specs.Hex.{hex_digits}
+use Rattle.hexadecimal.proofs.Hex.{length_hex}
 use Rattle.frame.specs.declared.Due.{Due}
 use Rattle.page_line.specs.declared.Effect.{Effect}
 use Rattle.page_line.specs.Effect.{effect_text, fields_text, given, kept, line_text, mark}

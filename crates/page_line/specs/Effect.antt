@@ -2,7 +2,7 @@
 use Rattle.std.specs.Prelude.{ℕ, Bool, false, cond, List, [], ◌∷◌, ◌++◌, pos, Float}
 use Rattle.std.specs.Float.{fin, binary64}
 use Rattle.std.specs.Float.Ieee.{eq, to_bits}
-use Rattle.hex.specs.Hex.{hex_digits}
+use Rattle.hexadecimal.specs.Hex.{hex_digits}
 use Rattle.frame.specs.declared.Due.{Due}
 use Rattle.page_line.specs.declared.Effect.{Effect}
 use Rattle.page_line.specs.declared.Effect.TheVariants.{Kept, Moved}

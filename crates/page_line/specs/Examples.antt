@@ -4,7 +4,7 @@ use Rattle.std.specs.Float.{binary64}
 use Rattle.std.specs.Float.Ieee.{of_bits, eq, size, round, to_bits}
 use Rattle.word.specs.Ascii.{ascii}
 use Rattle.word.specs.Digits.{digits_be}
-use Rattle.hex.specs.Hex.{digit_byte, hex_digits}
+use Rattle.hexadecimal.specs.Hex.{digit_byte, hex_digits}
 use Rattle.double.specs.Double.{double_value}
 use Rattle.frame.specs.Frame.{due}
 use Rattle.page_line.specs.Effect.{is_kept, effect_of, line_text}

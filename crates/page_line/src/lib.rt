@@ -36,9 +36,9 @@ fn put_fields(out: &mut [u8], at: usize, given: f64, kept: f64, mark: u8)
     requires { (at + 35 ≤ length out.old) × T (not (is_nan given)) × T (not (is_nan kept)) }
     ensures { out.new ≡ put_at out.old at (fields_text given kept mark) }
 {
-    hex::put_hex(out, at, 16, f64::to_bits(given));
+    hexadecimal::put_hex(out, at, 16, f64::to_bits(given));
     out[at + 16] = b' ';
-    hex::put_hex(out, at + 17, 16, f64::to_bits(kept));
+    hexadecimal::put_hex(out, at + 17, 16, f64::to_bits(kept));
     out[at + 33] = b' ';
     out[at + 34] = mark;
 }
@@ -59,10 +59,10 @@ pub fn put_line(out: &mut [u8], at: usize, d: Due, e: Effect)
     requires { (at + 44 ≤ length out.old) × T (not (is_nan (given e))) × T (not (is_nan (kept e))) }
     ensures { out.new ≡ put_at out.old at (line_text d e) }
 {
-    hex::put_hex(out, at, 2, d.kind as u64);
+    hexadecimal::put_hex(out, at, 2, d.kind as u64);
     out[at + 2] = b' ';
-    hex::put_hex(out, at + 3, 2, d.row as u64);
-    hex::put_hex(out, at + 5, 2, d.column as u64);
+    hexadecimal::put_hex(out, at + 3, 2, d.row as u64);
+    hexadecimal::put_hex(out, at + 5, 2, d.column as u64);
     out[at + 7] = b' ';
     put_effect(out, at + 8, e);
     out[at + 43] = b'\n';

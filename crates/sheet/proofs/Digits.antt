@@ -7,8 +7,8 @@ use lib.Ieee.{binary64, to_bits}
 use lib.Ieee.Bits.{to_bits-of_bits}
 use lib.ListN.{take, drop}
 use lib.Seq.{drop-drop, take-add}
-use Rattle.hex.specs.Hex.{hex_at, hex_digits}
-use Rattle.hex.proofs.Hex.{hex_lt}
+use Rattle.hexadecimal.specs.Hex.{hex_at, hex_digits}
+use Rattle.hexadecimal.proofs.Hex.{hex_lt}
 use Rattle.image.specs.declared.Sizes.{Sizes}
 use Rattle.line.proofs.Digits.{frame_part}
 use Rattle.frame.specs.Frame.{due_at}

@@ -11,7 +11,7 @@ use lib.Ieee.{binary64, of_bits}
 use lib.ListN.{length}
 use borrow.Author.Tests.{eqb-true, leb-true}
 use Rattle.word.specs.Word.{word_at}
-use Rattle.hex.specs.Hex.{hex_at}
+use Rattle.hexadecimal.specs.Hex.{hex_at}
 use Rattle.double.specs.Double.{scalable, rounded, rule_of}
 use Rattle.image.specs.Order.{or_else}
 use Rattle.image.specs.Sizes.{body_count, Sound}

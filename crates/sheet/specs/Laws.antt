@@ -3,7 +3,7 @@ use Rattle.std.specs.Prelude.{ℕ, ◌+◌, ◌*◌, ◌/◌, ◌%◌, ◌<◌, 
 use Rattle.std.specs.Float.{binary64}
 use Rattle.std.specs.Float.Ieee.{of_bits}
 use Rattle.word.specs.Word.{word_at}
-use Rattle.hex.specs.Hex.{hex_at}
+use Rattle.hexadecimal.specs.Hex.{hex_at}
 use Rattle.double.specs.Double.{scalable, rounded, rule_of, round_up, round_down}
 use Rattle.double.specs.Nearest.{IsRoundedCount}
 use Rattle.double.specs.declared.Rounding.{Rounding}

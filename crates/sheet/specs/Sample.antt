@@ -4,7 +4,7 @@ use Rattle.std.specs.Float.Ieee.{of_bits}
 use Rattle.integer.specs.Round.{floor}
 use Rattle.word.specs.Digits.{number_be, digits_be}
 use Rattle.word.specs.Word.{bytes_be, words_out}
-use Rattle.hex.specs.Hex.{is_hex, digit_of, hexes, hex_at, digit_byte, hex_digits}
+use Rattle.hexadecimal.specs.Hex.{is_hex, digit_of, hexes, hex_at, digit_byte, hex_digits}
 use Rattle.double.specs.Double.{scalable, rounded, accepted}
 use Rattle.gradient.specs.Index.{tab}
 use Rattle.image.specs.Sizes.{sound}

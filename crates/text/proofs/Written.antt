@@ -11,8 +11,8 @@ use borrow.Author.Tests.{ltb-true}
 use Rattle.word.specs.Buffer.{put_at}
 use Rattle.word.specs.Digits.{digits_be}
 use Rattle.word.proofs.Buffer.{front_put, put_next, set_next}
-use Rattle.hex.specs.Hex.{hex_at, hex_digits}
-use Rattle.hex.proofs.Hex.{length_hex, hex_front}
+use Rattle.hexadecimal.specs.Hex.{hex_at, hex_digits}
+use Rattle.hexadecimal.proofs.Hex.{length_hex, hex_front}
 use Rattle.text.specs.Text.{distance_digits, line_of, refusal}
 
 -- ---- a line: command, space, bound, space, D, byte 10

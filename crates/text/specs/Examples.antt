@@ -4,7 +4,7 @@ use Rattle.word.specs.Ascii.{ascii}
 use Rattle.word.specs.Buffer.{joined}
 use Rattle.word.specs.Digits.{number_be, digits_be}
 use Rattle.word.specs.Word.{nat_be}
-use Rattle.hex.specs.Hex.{digit_byte, hex_digits}
+use Rattle.hexadecimal.specs.Hex.{digit_byte, hex_digits}
 use Rattle.text.specs.Text.{distance_digits, line_of, lines, refusal}
 
 -- S: command −18, bound 3, D 2

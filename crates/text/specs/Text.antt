@@ -3,7 +3,7 @@ use Rattle.std.specs.Prelude.{ℕ, ◌+◌, ◌*◌, ◌^◌, ◌≤◌, ◌≡�
 use Rattle.word.specs.Buffer.{joined}
 use Rattle.word.specs.Digits.{digits_be}
 use Rattle.word.specs.Word.{nat_at, pattern_at}
-use Rattle.hex.specs.Hex.{hex_digits}
+use Rattle.hexadecimal.specs.Hex.{hex_digits}
 use Rattle.text.specs.declared.Text.{Text}
 
 -- ---- the text

@@ -31,11 +31,11 @@ fn put_line(out: &mut [u8], at: usize, command: u64, bound: u64, digits: usize, 
     requires { at + (19 + digits) ≤ length out.old }
     ensures { out.new ≡ put_at out.old at (line_of command bound digits d) }
 {
-    hex::put_hex(out, at, 8, command);
+    hexadecimal::put_hex(out, at, 8, command);
     out[at + 8] = b' ';
-    hex::put_hex(out, at + 9, 8, bound);
+    hexadecimal::put_hex(out, at + 9, 8, bound);
     out[at + 17] = b' ';
-    hex::put_hex(out, at + 18, digits, d);
+    hexadecimal::put_hex(out, at + 18, digits, d);
     out[at + (18 + digits)] = b'\n';
 }
 

@@ -3,7 +3,7 @@ use Rattle.std.specs.Prelude.{◌≡◌, refl, true, false, List, [], ◌∷◌,
 use Rattle.word.specs.Buffer.{joined}
 use Rattle.word.specs.Digits.{number_be, digits_be}
 use Rattle.word.specs.Word.{bytes_be}
-use Rattle.hex.specs.Hex.{is_hex, digit_of, hexes, hex_at}
+use Rattle.hexadecimal.specs.Hex.{is_hex, digit_of, hexes, hex_at}
 use Rattle.word_file.specs.WordFile.{is_word_file, file_words}
 
 -- "state 0000000A", and byte 10

@@ -2,7 +2,7 @@
 use Rattle.std.specs.Prelude.{ℕ, ◌+◌, ◌*◌, Bool, ◌&&◌, List, eqb, length, get_or}
 use Rattle.word.specs.Buffer.{joined}
 use Rattle.word.specs.Word.{bytes_of}
-use Rattle.hex.specs.Hex.{hexes, hex_at}
+use Rattle.hexadecimal.specs.Hex.{hexes, hex_at}
 
 -- a file of count words, for state.hex "nx words of 8 digits with nothing between, then one byte 10"
 unfoldable pub is_word_file : ℕ → List ℕ → Bool

@@ -14,7 +14,7 @@ pub fn is_word_file(file: &[u8], count: usize) -> bool
     if file[digits] != 10 {
         return false;
     }
-    hex::are_hex(file, 0, digits)
+    hexadecimal::are_hex(file, 0, digits)
 }
 
 // Zeros. As a call, they keep their literals out of the goals.
@@ -32,7 +32,7 @@ pub fn file_words(file: &[u8], count: usize) -> [u8; 64]
     let mut r = blank_words();
     let mut i = 0;
     while i < count {
-        word::put_nat(&mut r, 4 * i, hex::hex_at(file, 8 * i, 8));
+        word::put_nat(&mut r, 4 * i, hexadecimal::hex_at(file, 8 * i, 8));
         i += 1;
     }
     r

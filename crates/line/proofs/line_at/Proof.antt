@@ -1,11 +1,11 @@
 -- `line::line_at` meets its contract: each test that fails leads to its case. Assumes nothing.
 use mathlib.Core.Path.{◌≡◌, sym, ◌∙◌}
-use mathlib.Core.Bool.{true, false, and_false}
+use mathlib.Core.Bool.{true, false, and-false}
 use Prim.Native.Nat.{◌+◌}
 use native.Mathlib.Omega.{arith}
 use lib.ListN.{get_or}
 use borrow.Author.Tests.{eq-eqb, ne_eqb, not-true, not-false}
-use Rattle.hex.specs.Hex.{hexes}
+use Rattle.hexadecimal.specs.Hex.{hexes}
 use Rattle.line.proofs.Laws.{told, no_line, no_frame, a_frame, cut_frame}
 use borrow.Author.Rules.{rules}
 use Rattle.line.proofs.line_at.Statement.{statement}
@@ -50,7 +50,7 @@ shared-slice-read-if4 c = search rules
 returns-4 : tie.Need-returns-4
 returns-4 c =
     let a = c.before.before.before.before.before.before.before.args in
-    told a.s.now a.at (no_frame a.s.now a.at (omega arith) (rw (ne_eqb (get_or a.s.now (a.at + 22) 0) 10 c.if4.true) (and_false (hexes 22 a.s.now a.at))))
+    told a.s.now a.at (no_frame a.s.now a.at (omega arith) (rw (ne_eqb (get_or a.s.now (a.at + 22) 0) 10 c.if4.true) (and-false (hexes 22 a.s.now a.at))))
 
 -- src/lib.rt:36:15
 hex-at-requires : tie.Need-hex-at-requires

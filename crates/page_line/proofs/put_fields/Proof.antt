@@ -7,7 +7,7 @@ use Prim.Native.Nat.{ℕ, ◌+◌}
 use lib.Ieee.{binary64, to_bits}
 use lib.ListN.{set, length-set}
 use Rattle.word.specs.Buffer.{put_at}
-use Rattle.hex.specs.Hex.{hex_digits}
+use Rattle.hexadecimal.specs.Hex.{hex_digits}
 use Rattle.page_line.proofs.Written as written
 use Rattle.page_line.proofs.put_fields.Statement.{statement}
 use Rattle.page_line.proofs.put_fields.Tie as tie

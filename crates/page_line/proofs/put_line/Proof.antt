@@ -6,7 +6,7 @@ use mathlib.Core.List.{List}
 use Prim.Native.Nat.{ℕ, ◌+◌}
 use lib.ListN.{length, set, length-set}
 use Rattle.word.specs.Buffer.{put_at}
-use Rattle.hex.specs.Hex.{hex_digits}
+use Rattle.hexadecimal.specs.Hex.{hex_digits}
 use Rattle.page_line.specs.Effect.{effect_text}
 use Rattle.page_line.proofs.Written as written
 use Rattle.page_line.proofs.put_line.Statement.{statement}

@@ -6,7 +6,7 @@ use mathlib.Core.List.{List}
 use Prim.Native.Nat.{ℕ, ◌+◌}
 use lib.ListN.{set, length-set}
 use Rattle.word.specs.Buffer.{put_at}
-use Rattle.hex.specs.Hex.{hex_digits}
+use Rattle.hexadecimal.specs.Hex.{hex_digits}
 use Rattle.text.proofs.Written as written
 use Rattle.text.proofs.put_line.Statement.{statement}
 use Rattle.text.proofs.put_line.Tie as tie

@@ -8,7 +8,7 @@ use Rattle.word.specs.Buffer.{joined, put_at}
 use Rattle.word.specs.Word.{bytes_of}
 use Rattle.word.proofs.Words.{length_bytes}
 use Rattle.word.proofs.Buffer.{front_put}
-use Rattle.hex.specs.Hex.{hex_at}
+use Rattle.hexadecimal.specs.Hex.{hex_at}
 use Rattle.word_file.specs.WordFile.{file_words}
 use Rattle.word_file.proofs.file_words.Statement.{statement}
 use Rattle.word_file.proofs.file_words.Tie as tie

@@ -1,11 +1,11 @@
--- `hex::are_hex` meets its contract. Assumes nothing.
+-- `hexadecimal::are_hex` meets its contract. Assumes nothing.
 use mathlib.Core.Path.{sym}
 use native.Mathlib.Omega.{arith}
-use Rattle.hex.specs.Hex.{hexes}
-use Rattle.hex.proofs.Hex.{hexes_cut}
+use Rattle.hexadecimal.specs.Hex.{hexes}
+use Rattle.hexadecimal.proofs.Hex.{hexes_cut}
 use borrow.Author.Rules.{rules}
-use Rattle.hex.proofs.are_hex.Statement.{statement}
-use Rattle.hex.proofs.are_hex.Tie as tie
+use Rattle.hexadecimal.proofs.are_hex.Statement.{statement}
+use Rattle.hexadecimal.proofs.are_hex.Tie as tie
 
 returns : tie.Need-returns
 unfolding hexes

@@ -1,4 +1,4 @@
--- `hex::put_hex` meets its contract. The invariant: the digits left to write make the whole number. Assumes nothing.
+-- `hexadecimal::put_hex` meets its contract. The invariant: the digits left to write make the whole number. Assumes nothing.
 use mathlib.Core.Path.{◌≡◌, refl, sym, ap, ◌∙◌}
 use Prim.Native.Nat.{ℕ, suc, ◌-◌, ◌≤◌}
 use native.Mathlib.Omega.{arith}
@@ -6,10 +6,10 @@ use lib.ListN.{length, length-set}
 use Rattle.word.specs.Buffer.{put_at}
 use Rattle.word.specs.Digits.{digits_be}
 use Rattle.word.proofs.Buffer.{put_nothing}
-use Rattle.hex.specs.Hex.{hex_digits}
-use Rattle.hex.proofs.Hex.{put_more}
-use Rattle.hex.proofs.put_hex.Statement.{statement}
-use Rattle.hex.proofs.put_hex.Tie as tie
+use Rattle.hexadecimal.specs.Hex.{hex_digits}
+use Rattle.hexadecimal.proofs.Hex.{put_more}
+use Rattle.hexadecimal.proofs.put_hex.Statement.{statement}
+use Rattle.hexadecimal.proofs.put_hex.Tie as tie
 
 abbrev invariant-loop : tie.invariant-loop
 invariant-loop out₀ at k n m₀ i₀ out m i = (i ≤ k) × (length out ≡ length out₀) × (put_at out at (hex_digits i m) ≡ put_at out₀ at (hex_digits k n))

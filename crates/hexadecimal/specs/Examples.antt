@@ -1,7 +1,7 @@
 -- Worked examples of document 01, by computation. Assumes nothing.
 use Rattle.std.specs.Prelude.{◌≡◌, refl, true, false, List, [], ◌∷◌, ℕ}
 use Rattle.word.specs.Digits.{number_be, digits_be}
-use Rattle.hex.specs.Hex.{is_hex, digit_of, hexes, hex_at, digit_byte, hex_digits}
+use Rattle.hexadecimal.specs.Hex.{is_hex, digit_of, hexes, hex_at, digit_byte, hex_digits}
 
 -- "command −18" is the word FFFFFFEE
 command_printed : hex_digits 8 0xFFFFFFEE ≡ 70 ∷ 70 ∷ 70 ∷ 70 ∷ 70 ∷ 70 ∷ 69 ∷ 69 ∷ []

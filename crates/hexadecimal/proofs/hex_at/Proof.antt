@@ -1,4 +1,4 @@
--- `hex::hex_at` meets its contract. The invariant: n is the number of the first i digits. Assumes nothing.
+-- `hexadecimal::hex_at` meets its contract. The invariant: n is the number of the first i digits. Assumes nothing.
 use mathlib.Core.Path.{◌≡◌, refl, ap, sym, ◌∙◌}
 use Prim.Native.Nat.{ℕ, ◌≤◌, ◌-◌, ◌<◌, ◌^◌, ◌*◌, ◌+◌}
 use native.Mathlib.Omega.{arith}
@@ -6,10 +6,10 @@ use native.Mathlib.Nat.{lt_of_lt_of_le, pow-le-pow_right}
 use mir.Facts.{Fits-of_lt}
 use Rattle.word.specs.Digits.{number_be}
 use Rattle.word.proofs.Digits.{number_grows}
-use Rattle.hex.specs.Hex.{hex_at}
-use Rattle.hex.proofs.Hex.{hex_more}
-use Rattle.hex.proofs.hex_at.Statement.{statement}
-use Rattle.hex.proofs.hex_at.Tie as tie
+use Rattle.hexadecimal.specs.Hex.{hex_at}
+use Rattle.hexadecimal.proofs.Hex.{hex_more}
+use Rattle.hexadecimal.proofs.hex_at.Statement.{statement}
+use Rattle.hexadecimal.proofs.hex_at.Tie as tie
 
 abbrev invariant-loop : tie.invariant-loop
 invariant-loop s at k n₀ i₀ n i = (i ≤ k) × (n < 16 ^ i) × (n ≡ hex_at i s at)

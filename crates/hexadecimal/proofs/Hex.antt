@@ -1,6 +1,6 @@
 -- Hexadecimal digits: one digit, the digits from a place on, and both ways round. Assumes nothing.
 use mathlib.Core.Path.{◌≡◌, refl, sym, ap, ◌∙◌, subst}
-use mathlib.Core.Bool.{Bool, true, false, ◌&&◌, cond, false≢true, and_true, and_assoc}
+use mathlib.Core.Bool.{Bool, true, false, ◌&&◌, cond, false≢true, and-true, and_assoc}
 use mathlib.Core.List.{List, [], ◌∷◌, ◌++◌}
 use mathlib.Core.Logic.{⊎_elim}
 use Prim.Native.Nat.{ℕ, zero, suc, ◌+◌, ◌-◌, ◌*◌, ◌/◌, ◌%◌, ◌^◌, ◌≤◌, ◌<◌}
@@ -17,7 +17,7 @@ use Rattle.word.specs.Buffer.{put_at}
 use Rattle.word.specs.Digits.{number_be, digits_be}
 use Rattle.word.proofs.Buffer.{get_d_part, put_last}
 use Rattle.word.proofs.Digits.{number_lt, length_digits, digits_each, number_part, digits_number}
-use Rattle.hex.specs.Hex.{is_hex, digit_of, hexes, hex_at, digit_byte, hex_digits}
+use Rattle.hexadecimal.specs.Hex.{is_hex, digit_of, hexes, hex_at, digit_byte, hex_digits}
 
 -- ---- a digit
 -- the bytes 0 to 9, and A to F
@@ -137,7 +137,7 @@ hexes_cut k s at p h = hexes_not k s at (k - 1) (omega arith) (rw (get_or-eq_def
 -- the first j and the other k
 pub hexes_split : (j k : ℕ) (s : List ℕ) (at : ℕ) → hexes (j + k) s at ≡ hexes j s at && hexes k s (at + j)
 unfolding hexes
-hexes_split j zero s at = rw (add-zero j) (sym (and_true (hexes j s at)))
+hexes_split j zero s at = rw (add-zero j) (sym (and-true (hexes j s at)))
 hexes_split j (suc k) s at =
     rw (add-suc j k, hexes_split j k s at, add_assoc at j k) (and_assoc (hexes j s at) (hexes k s (at + j)) (is_hex (get_or s (at + (j + k)) 0)))
 

@@ -1,9 +1,9 @@
--- `hex::digit_byte` meets its contract. Assumes nothing.
+-- `hexadecimal::digit_byte` meets its contract. Assumes nothing.
 use borrow.Author.Tests.{lt-ltb, le-ltb}
-use Rattle.hex.specs.Hex.{digit_byte}
+use Rattle.hexadecimal.specs.Hex.{digit_byte}
 use borrow.Author.Rules.{rules}
-use Rattle.hex.proofs.digit_byte.Statement.{statement}
-use Rattle.hex.proofs.digit_byte.Tie as tie
+use Rattle.hexadecimal.proofs.digit_byte.Statement.{statement}
+use Rattle.hexadecimal.proofs.digit_byte.Tie as tie
 
 add-result : tie.Need-overflow-add-result
 add-result c = search rules

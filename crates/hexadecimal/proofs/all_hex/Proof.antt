@@ -1,13 +1,13 @@
--- `hex::all_hex` meets its contract. The invariant: the first i bytes are digits. Assumes nothing.
+-- `hexadecimal::all_hex` meets its contract. The invariant: the first i bytes are digits. Assumes nothing.
 use borrow.Author.Tests.{not-true, not-false}
 use mathlib.Core.Path.{◌≡◌, refl, ap, sym, ◌∙◌}
 use mathlib.Core.Bool.{true}
 use Prim.Native.Nat.{ℕ, ◌≤◌, ◌-◌}
 use native.Mathlib.Omega.{arith}
-use Rattle.hex.specs.Hex.{hexes}
-use Rattle.hex.proofs.Hex.{hexes_more, hexes_not}
-use Rattle.hex.proofs.all_hex.Statement.{statement}
-use Rattle.hex.proofs.all_hex.Tie as tie
+use Rattle.hexadecimal.specs.Hex.{hexes}
+use Rattle.hexadecimal.proofs.Hex.{hexes_more, hexes_not}
+use Rattle.hexadecimal.proofs.all_hex.Statement.{statement}
+use Rattle.hexadecimal.proofs.all_hex.Tie as tie
 
 abbrev invariant-loop : tie.invariant-loop
 invariant-loop s at k i₀ i = (i ≤ k) × (hexes i s at ≡ true)

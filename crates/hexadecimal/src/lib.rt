@@ -1,7 +1,7 @@
 // Hexadecimal digits in byte slices.
 ghost use Rattle.std.specs.Prelude.{◌≡◌, ◌+◌, ◌^◌, ◌<◌, ◌≤◌, length};
 ghost use Rattle.word.specs.Buffer.{put_at};
-ghost use Rattle.hex.specs.Hex.{is_hex, digit_of, hexes, hex_at, digit_byte, hex_digits};
+ghost use Rattle.hexadecimal.specs.Hex.{is_hex, digit_of, hexes, hex_at, digit_byte, hex_digits};
 
 // Whether a byte is a hexadecimal digit, 0 to 9 or A to F.
 pub fn is_hex(c: u8) -> bool

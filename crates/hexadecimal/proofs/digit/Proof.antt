@@ -1,11 +1,11 @@
--- `hex::digit` meets its contract. Assumes nothing.
+-- `hexadecimal::digit` meets its contract. Assumes nothing.
 use borrow.Author.Tests.{not-true, not-false}
 use mathlib.Core.Path.{sym, ◌∙◌}
 use native.Mathlib.Omega.{arith}
-use Rattle.hex.proofs.Hex.{Digit, hex_digit, low_digit, high_digit, figure_value, letter_value, other_value}
+use Rattle.hexadecimal.proofs.Hex.{Digit, hex_digit, low_digit, high_digit, figure_value, letter_value, other_value}
 use borrow.Author.Rules.{rules}
-use Rattle.hex.proofs.digit.Statement.{statement}
-use Rattle.hex.proofs.digit.Tie as tie
+use Rattle.hexadecimal.proofs.digit.Statement.{statement}
+use Rattle.hexadecimal.proofs.digit.Tie as tie
 
 -- past the first test the byte is a digit
 known : (c : tie.Else1) → Digit c.before.before.args.c

@@ -1,10 +1,10 @@
--- `hex::is_hex` meets its contract. Assumes nothing.
+-- `hexadecimal::is_hex` meets its contract. Assumes nothing.
 use borrow.Author.Tests.{le-leb, lt-leb}
 use Prim.Native.Nat.{◌<◌}
 use native.Mathlib.Omega.{arith}
-use Rattle.hex.specs.Hex.{is_hex}
-use Rattle.hex.proofs.is_hex.Statement.{statement}
-use Rattle.hex.proofs.is_hex.Tie as tie
+use Rattle.hexadecimal.specs.Hex.{is_hex}
+use Rattle.hexadecimal.proofs.is_hex.Statement.{statement}
+use Rattle.hexadecimal.proofs.is_hex.Tie as tie
 
 returns : tie.Need-returns
 unfolding is_hex
