@@ -1,4 +1,6 @@
 // Arrays of 16 elements, of which the first n count: made of zeros, filled with words, written as bytes.
+#![tactic(auto)]
+
 ghost use Rattle.std.specs.Prelude.{◌≡◌, map, ◌*◌, ◌≤◌, length, pos};
 ghost use Rattle.word.specs.Word.{word_at, words_out};
 ghost use Rattle.array.specs.Arrays.{Filled, WordsTo};

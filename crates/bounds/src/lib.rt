@@ -1,4 +1,6 @@
 // One iteration of the error bounds, in place: the new ones from the rows of |M|, then those of y, and a flag where nothing changed.
+#![tactic(auto)]
+
 ghost use Rattle.std.specs.Prelude.{◌≡◌, true, length};
 ghost use Rattle.array.specs.Arrays.{Filled, NatsTo};
 ghost use Rattle.bounds.specs.Steps.{e_at, Fitting, WeightsTo, Stored};

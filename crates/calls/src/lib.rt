@@ -1,4 +1,6 @@
 // The checks of a call, 13 to 16, and the numbers of a solve and of a cold start.
+#![tactic(auto)]
+
 ghost use Rattle.std.specs.Prelude.{◌≡◌, ◌*◌, length};
 ghost use Rattle.gradient.specs.Demand.{start_within};
 ghost use Rattle.image.specs.Sizes.{Whole, command_count, input_count};

@@ -1,4 +1,6 @@
 // One iteration of the commands, in place: the new ones from the rows of M, then the new y, and a flag where nothing changed.
+#![tactic(auto)]
+
 ghost use Rattle.std.specs.Prelude.{◌≡◌, true, ◌^◌, ◌≤◌, ◌<◌, length, pos, nat_abs, ◌-ℤ◌};
 ghost use Rattle.integer.specs.Round.{floor, clamp};
 ghost use Rattle.gradient.specs.Demand.{In64};

@@ -1,4 +1,6 @@
 // The design page of a sheet: what rounding did to each design number, a line each.
+#![tactic(auto)]
+
 ghost use Rattle.std.specs.Prelude.{◌≡◌, cond, ℕ, ◌+◌, ◌*◌, ◌<◌, ◌≤◌, eqb, length};
 ghost use Rattle.word.specs.Buffer.{put_at};
 ghost use Rattle.image.specs.Sizes.{Sound};

@@ -1,4 +1,6 @@
 // D of an accepted image's commands: how many counts they are from the optimum at most.
+#![tactic(auto)]
+
 ghost use Rattle.std.specs.Prelude.{◌≡◌, ◌^◌, ◌<◌, pos, nat_abs, ◌≤ℤ◌, take};
 ghost use Rattle.image.specs.Sizes.{Whole, command_count};
 ghost use Rattle.image.specs.Layout.{sizes_of, problem_of};

@@ -1,4 +1,6 @@
 // Check 8 of a row of H, its symmetry, and what 9 to 11 take of it: its margin and its total.
+#![tactic(auto)]
+
 ghost use Rattle.std.specs.Prelude.{◌≡◌, cond, ◌+◌, ◌*◌, ◌^◌, ◌≤◌, ◌<◌, eqb, length, pos, nat_abs};
 ghost use Rattle.word.specs.Word.{word_at};
 ghost use Rattle.image.specs.Sizes.{Whole, command_count};

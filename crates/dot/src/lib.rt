@@ -1,4 +1,6 @@
 // The sum of a row: of its products with a vector, undivided.
+#![tactic(auto)]
+
 ghost use Rattle.std.specs.Prelude.{◌≡◌, ◌+◌};
 ghost use Rattle.gradient.specs.Index.{sum_z, product_at};
 ghost use Rattle.dot.specs.Sums.{input_term, Summable, RowSummable};

@@ -1,5 +1,7 @@
 // The places of a drive's parts in its bytes, each derived from the one before, as specs/ has them. Beside them the crate is mathematics:
 // the calls on a drive's bytes as definitions in specs/, and in proofs/ that they are the calls on the drive that the bytes hold.
+#![tactic(auto)]
+
 ghost use Rattle.std.specs.Prelude.{◌≡◌, ◌<◌};
 ghost use Rattle.device.specs.Device.{most_heads};
 ghost use Rattle.drive.specs.Layout.{waiting_place, start_place, answer_place, own_place};

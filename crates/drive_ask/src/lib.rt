@@ -1,4 +1,6 @@
 // Ask: a solve from the held start, for the caller and for the drive, and what it costs.
+#![tactic(auto)]
+
 ghost use Rattle.std.specs.Prelude.{◌≡◌, cond, ◌+◌, ◌<◌, ◌≤◌, eqb, length};
 ghost use Rattle.interface.specs.Calls.{solve_number};
 ghost use Rattle.interface.specs.Demand.{Guarantee};

@@ -1,4 +1,6 @@
 // Commit: the first commands of a head's waiting answer to the caller, the rest, moved on, to its start.
+#![tactic(auto)]
+
 ghost use Rattle.std.specs.Prelude.{◌≡◌, cond, ◌+◌, ◌*◌, ◌<◌, ◌≤◌, eqb, length, take};
 ghost use Rattle.word.specs.Buffer.{put_at};
 ghost use Rattle.word.specs.Word.{Words, words_out};

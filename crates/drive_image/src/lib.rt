@@ -1,4 +1,6 @@
 // New image: another image for every head, in a drive in which no answer waits.
+#![tactic(auto)]
+
 ghost use Rattle.std.specs.Prelude.{◌≡◌, cond, eqb, length};
 ghost use Rattle.gradient.specs.Index.{all_to};
 ghost use Rattle.drive.specs.Layout.{drive_length, held_heads};

@@ -1,4 +1,6 @@
 // Make: a new drive in the caller's buffer. An image in a drive, for make and for a new image.
+#![tactic(auto)]
+
 ghost use Rattle.std.specs.Prelude.{◌≡◌, cond, ◌≤◌, eqb, length};
 ghost use Rattle.drive.specs.Layout.{drive_length, image_room};
 ghost use Rattle.drive.specs.Calls.{imaged_number, imaged, make_number, make_drive};

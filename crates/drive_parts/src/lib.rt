@@ -1,4 +1,6 @@
 // The parts of a drive in the buffer that the caller lends, and the checks of that buffer.
+#![tactic(auto)]
+
 ghost use Rattle.std.specs.Prelude.{◌≡◌, ◌+◌, ◌*◌, ◌<◌, length};
 ghost use Rattle.image.specs.Layout.{sizes_of};
 ghost use Rattle.device.specs.Device.{most_heads};

@@ -1,4 +1,6 @@
 // Period and done: the sweeps of a drive's heads, given and given back.
+#![tactic(auto)]
+
 ghost use Rattle.std.specs.Prelude.{◌≡◌, cond, ◌<◌, ◌≤◌, eqb, length};
 ghost use Rattle.device.specs.Device.{most_heads};
 ghost use Rattle.drive.specs.Layout.{drive_length};

@@ -1,4 +1,6 @@
 // The sweeps of a drive's heads: whether those of one are enough for an ask, and what an ask takes.
+#![tactic(auto)]
+
 ghost use Rattle.std.specs.Prelude.{◌≡◌, ◌+◌, ◌-◌, ◌<◌, leb, length};
 ghost use Rattle.device.specs.Device.{most_heads};
 ghost use Rattle.drive.specs.Layout.{drive_length, held_own, held_common, held_sweeps};

@@ -1,4 +1,6 @@
 // Line 01 of a design sheet, the lines due after it, and the word of a line's double.
+#![tactic(auto)]
+
 ghost use Rattle.std.specs.Prelude.{◌≡◌, ◌<◌};
 ghost use Rattle.image.specs.Sizes.{Sound};
 ghost use Rattle.double.specs.Double.{converted_number};

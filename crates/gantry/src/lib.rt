@@ -1,4 +1,6 @@
 // The calls that the drive's C firmware makes: numbers and byte buffers. What is kept between two calls the caller lends.
+#![tactic(auto)]
+
 ghost use Rattle.std.specs.Prelude.{◌≡◌, cond, eqb, length};
 ghost use Rattle.interface.specs.Calls.{cold_number, cold_answer, solve_number, solve_answer};
 ghost use Rattle.interface.specs.Demand.{Guarantee};

@@ -1,4 +1,6 @@
 // Check 12 of a row: P and Y of its command, and A + B, are in the word.
+#![tactic(auto)]
+
 ghost use Rattle.std.specs.Prelude.{◌≡◌, ◌+◌, ◌*◌, ◌^◌, ◌≤◌, ◌<◌, min};
 ghost use Rattle.word.specs.Format.{top};
 ghost use Rattle.gradient.specs.Index.{sum_n};

@@ -1,4 +1,6 @@
 // The intake of a design sheet: the checks of the tables on the words that were read, and the call that writes the image.
+#![tactic(auto)]
+
 ghost use Rattle.std.specs.Prelude.{◌≡◌, cond, ◌*◌, eqb, length};
 ghost use Rattle.word.specs.Word.{words_out};
 ghost use Rattle.sheet.specs.Sheet.{sheet_words};

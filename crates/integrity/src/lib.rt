@@ -1,4 +1,6 @@
 // Checks 6, 3, 6 and 5 of an image: its length, its sizes and its words.
+#![tactic(auto)]
+
 ghost use Rattle.std.specs.Prelude.{◌≡◌};
 ghost use Rattle.gradient.specs.Index.{all_to};
 ghost use Rattle.image.specs.Sizes.{Whole, input_count, body_count};

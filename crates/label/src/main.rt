@@ -1,5 +1,7 @@
 // Prints the label of a drive, from drive.hex, state.hex and target.hex in the current folder. What is printed is the
 // value of `label_text::label` on the bytes of the files; only reading and writing is left to do here.
+#![tactic(auto)]
+
 ghost use Rattle.io.specs.Counts.{IsPrefixLen};
 
 use libc::STDOUT_FILENO;

@@ -1,4 +1,6 @@
 // The files of a label's state and target: their form, and the number that they give before a solve does.
+#![tactic(auto)]
+
 ghost use Rattle.std.specs.Prelude.{◌≡◌, ◌≤◌};
 ghost use Rattle.image.specs.Sizes.{Whole};
 ghost use Rattle.label_files.specs.Files.{target_form, form_number};

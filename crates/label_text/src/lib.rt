@@ -1,4 +1,6 @@
 // What the label program prints, from the bytes of its files.
+#![tactic(auto)]
+
 ghost use Rattle.std.specs.Prelude.{◌≡◌, ◌*◌, ◌≤◌, length, take};
 ghost use Rattle.image.specs.Sizes.{command_count};
 ghost use Rattle.image.specs.Layout.{sizes_of};

@@ -1,4 +1,6 @@
 // The lines of a design sheet.
+#![tactic(auto)]
+
 ghost use Rattle.std.specs.Prelude.{◌≡◌, ◌+◌, ◌<◌, ◌^◌};
 ghost use Rattle.line.specs.Line.{line_at, line_number, number_at};
 

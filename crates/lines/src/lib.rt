@@ -1,4 +1,6 @@
 // The lines after line 01, taken one by one: a low limit is kept as a double until its high limit is read.
+#![tactic(auto)]
+
 ghost use Rattle.std.specs.Prelude.{◌≡◌, List, ℕ, ◌+◌, ◌*◌, ◌<◌, length};
 ghost use Rattle.image.specs.Sizes.{Sound};
 ghost use Rattle.line.specs.Line.{line_at};

@@ -1,4 +1,6 @@
 // What an accepted image, a state and a target give the iterations, as arrays: all that stays the same over them, but for M.
+#![tactic(auto)]
+
 ghost use Rattle.std.specs.Prelude.{◌≡◌, ◌<◌, length, get_or, pos};
 ghost use Rattle.image.specs.Sizes.{Whole, command_count, input_count};
 ghost use Rattle.image.specs.Layout.{gain_row};

@@ -1,4 +1,6 @@
 // M of an image as an array of rows, and the magnitudes of its entries.
+#![tactic(auto)]
+
 ghost use Rattle.std.specs.Prelude.{◌*◌, ◌≤◌, [], length, get_or, pos, nat_abs};
 ghost use Rattle.image.specs.Sizes.{Whole, command_count};
 ghost use Rattle.image.specs.Layout.{entry_of, entry_at};

@@ -1,4 +1,6 @@
 // Check 11: the range of β, and its ratio by the least margin and the largest total, which 9 and 10 go by too.
+#![tactic(auto)]
+
 ghost use Rattle.std.specs.Prelude.{◌≡◌, ◌^◌, ◌≤◌, nat_abs, ◌*ℤ◌};
 ghost use Rattle.image.specs.Sizes.{Whole};
 ghost use Rattle.interface.specs.Tables.{min_z, max_z, least_margin, largest_total, momentum_range, momentum_ratio};

@@ -1,4 +1,6 @@
 // The next start: an answer's commands moved one step forward, each held to the limits of its new step.
+#![tactic(auto)]
+
 ghost use Rattle.std.specs.Prelude.{◌≡◌, ◌*◌, ◌<◌, ◌≤◌, length};
 ghost use Rattle.image.specs.Sizes.{Sound, Whole, command_count};
 ghost use Rattle.drive.specs.Move.{moved_from};

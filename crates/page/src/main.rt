@@ -1,5 +1,7 @@
 // Prints the design page of a drive, from drive.hex in the current folder. What is printed is the text of
 // `page_text::page` for the bytes of the file; only reading and writing is left to do here.
+#![tactic(auto)]
+
 ghost use Rattle.std.specs.Prelude.{◌≡◌, length};
 
 use libc::STDOUT_FILENO;

@@ -1,4 +1,6 @@
 // What rounding did to one design number, and its line on the design page.
+#![tactic(auto)]
+
 ghost use Rattle.std.specs.Prelude.{◌≡◌, not, ◌+◌, ◌<◌, ◌≤◌, T, length};
 ghost use Rattle.std.specs.Float.Ieee.{is_nan};
 ghost use Rattle.word.specs.Buffer.{put_at};

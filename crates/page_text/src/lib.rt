@@ -1,4 +1,6 @@
 // What the page program prints, from the bytes of its file.
+#![tactic(auto)]
+
 ghost use Rattle.std.specs.Prelude.{◌≡◌, ◌≤◌, length, take};
 ghost use Rattle.design_page.specs.Page.{design_count};
 ghost use Rattle.page_text.specs.Text.{page_text};

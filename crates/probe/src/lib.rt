@@ -1,4 +1,6 @@
 // Test exports: the conversions of `double` by themselves, for the second program. The shipped archive does not hold them.
+#![tactic(auto)]
+
 ghost use Rattle.std.specs.Prelude.{◌≡◌, cond, eqb, length};
 ghost use Rattle.probe.specs.Probe.{rounding_of, word_number, word_answer, limits_number, limits_answer, double_number, double_answer};
 

@@ -1,4 +1,6 @@
 // The new commands of both ends, row by row, from the lowest y and the highest.
+#![tactic(auto)]
+
 ghost use Rattle.std.specs.Prelude.{◌≡◌, length};
 ghost use Rattle.range_commands.specs.Steps.{EndsReady, NewEnds};
 

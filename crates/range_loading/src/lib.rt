@@ -1,4 +1,6 @@
 // Both ends of the linear terms of an accepted image, of a state that is known within ranges, and of a target.
+#![tactic(auto)]
+
 ghost use Rattle.range_loading.specs.Tables.{GainReady, GainEndsOf, RangeLoadable, LinearEndsOf};
 
 use image::{Input, Sizes};

@@ -1,4 +1,6 @@
 // A solve with ranges on an accepted image: the lowest and the highest commands, and the answer's bytes.
+#![tactic(auto)]
+
 ghost use Rattle.std.specs.Prelude.{◌≡◌, length};
 ghost use Rattle.image.specs.Layout.{sizes_of};
 ghost use Rattle.range_interface.specs.Calls.{range_answer_length, range_answer};

@@ -1,4 +1,6 @@
 // The lowest and the highest sum of a row whose values are known within ranges. A negative factor takes the opposite end: so both sums together are the row times low + high, and they are apart by its magnitudes times high − low.
+#![tactic(auto)]
+
 ghost use Rattle.std.specs.Prelude.{pos};
 ghost use Rattle.array.specs.Arrays.{Filled};
 ghost use Rattle.range_sums.specs.Ends.{sum_at, width_at, Ranged, RowReady, RowEndsOf};

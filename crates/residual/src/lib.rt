@@ -1,4 +1,6 @@
 // R on arrays: the largest difference of a command from its held gradient step, unrounded.
+#![tactic(auto)]
+
 ghost use Rattle.std.specs.Prelude.{◌≡◌};
 ghost use Rattle.optimum.specs.Optimum.{largest_n};
 ghost use Rattle.residual.specs.Terms.{difference_of, difference_at, Small, Ready};

@@ -1,4 +1,6 @@
 // The sums of a row: those of A and B of 12 before they are divided.
+#![tactic(auto)]
+
 ghost use Rattle.std.specs.Prelude.{◌≡◌, ◌+◌, ◌*◌, ◌^◌, ◌≤◌, ◌<◌, min, nat_abs};
 ghost use Rattle.gradient.specs.Index.{sum_n};
 ghost use Rattle.image.specs.Sizes.{Whole};

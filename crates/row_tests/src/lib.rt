@@ -1,4 +1,6 @@
 // The tests of each row: 7, 17, 8, and the two of 12.
+#![tactic(auto)]
+
 ghost use Rattle.std.specs.Prelude.{◌≡◌, ◌&&◌, ◌<◌};
 ghost use Rattle.std.specs.Int.Signed.{le_z};
 ghost use Rattle.gradient.specs.Index.{all_to};

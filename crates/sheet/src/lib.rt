@@ -1,4 +1,6 @@
 // The design sheet, read line by line: its number through lines and end, and its image's words.
+#![tactic(auto)]
+
 ghost use Rattle.std.specs.Prelude.{◌≡◌, List, ◌++◌, ℕ, ◌+◌, ◌*◌, ◌<◌, Float, drop, length};
 ghost use Rattle.image.specs.Sizes.{Sound};
 ghost use Rattle.line.specs.Line.{line_at};

@@ -1,4 +1,6 @@
 // A solve on an accepted image: the commands, their error bounds, D, and the answer's bytes. A cold start's bytes.
+#![tactic(auto)]
+
 ghost use Rattle.std.specs.Prelude.{◌≡◌, ◌++◌, map, ◌+◌, ◌*◌, pos, length, replicate};
 ghost use Rattle.word.specs.Word.{words_out, pattern_bytes, Words};
 ghost use Rattle.image.specs.Layout.{sizes_of};

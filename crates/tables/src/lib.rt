@@ -1,4 +1,6 @@
 // The checks of an image's tables, 7, 17 and 8 to 12, in order, and the number of an image.
+#![tactic(auto)]
+
 ghost use Rattle.std.specs.Prelude.{◌≡◌};
 ghost use Rattle.image.specs.Sizes.{Whole};
 ghost use Rattle.interface.specs.Tables.{tables_number, image_number};

@@ -1,4 +1,6 @@
 // The lines that the label program prints, and the line of a refusal.
+#![tactic(auto)]
+
 ghost use Rattle.std.specs.Prelude.{◌≡◌, ◌+◌, ◌*◌, ◌≤◌, length};
 ghost use Rattle.word.specs.Buffer.{put_at};
 ghost use Rattle.text.specs.Text.{distance_digits, line_of, lines, refusal, text_room, Holds};

@@ -1,4 +1,6 @@
 // The sum of a row of |M| times the error bounds of y.
+#![tactic(auto)]
+
 ghost use Rattle.std.specs.Prelude.{◌≡◌, ◌+◌, ◌^◌, ◌<◌};
 ghost use Rattle.weight.specs.Sums.{term_at, weight_to, Weighable};
 

@@ -1,4 +1,6 @@
 // What a file of words says.
+#![tactic(auto)]
+
 ghost use Rattle.std.specs.Prelude.{◌≡◌, ◌*◌, ◌≤◌, length, take};
 ghost use Rattle.word_file.specs.WordFile.{is_word_file, file_words};
 

@@ -1,0 +1,8 @@
+use mathlib.Core.Path.{refl}
+use borrow.Author.Rules.{rules}
+use Rattle.integer.specs.Round.{ceil}
+use Rattle.integer.proofs.ceil_by.Goals as goal
+
+pub returns : goal.returns
+unfolding ceil
+returns c = refl
