@@ -10,7 +10,7 @@ ghost use Rattle.interface.specs.Tables.{eq_z, others_of, margin_at, total_at, s
 use image::Sizes;
 
 // The margin and the total of a row.
-#[derive(Drop)]
+#[derive(Clone, Copy)]
 pub struct Disc {
     pub margin: i64,
     pub total: i64,

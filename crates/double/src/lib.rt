@@ -7,7 +7,7 @@ ghost use Rattle.std.specs.Float.Ieee.{mul, lt, round};
 ghost use Rattle.double.specs.Double.{power, rounded, rounded_word, round_down, round_nearest, rule_of, convert, conversion_number, converted_number, convert_limits, limits_number, limit_words_number, is_negative, answer, double_answer, HasQuotient};
 
 // How a value between two counts is rounded.
-#[derive(Drop)]
+#[derive(Clone, Copy)]
 pub enum Rounding {
     Down,
     Up,
@@ -16,28 +16,28 @@ pub enum Rounding {
 }
 
 // What a conversion answers.
-#[derive(Drop)]
+#[derive(Clone, Copy)]
 pub enum Converted {
     Word(i64),
     Refused,
 }
 
 // A motor's limits, which travel together as doubles until both are rounded.
-#[derive(Drop)]
+#[derive(Clone, Copy)]
 pub struct Limits {
     pub low: f64,
     pub high: f64,
 }
 
 // What the conversion of a motor's limits answers: the low word and the high word.
-#[derive(Drop)]
+#[derive(Clone, Copy)]
 pub enum LimitWords {
     Pair(i64, i64),
     NoPair,
 }
 
 // What the way back answers: document 01's number, and the double.
-#[derive(Drop)]
+#[derive(Clone, Copy)]
 pub struct DoubleAnswer {
     pub number: u32,
     pub value: f64,

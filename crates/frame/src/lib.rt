@@ -11,14 +11,14 @@ use image::Sizes;
 use line::Line;
 
 // What line 01 gives: the sizes, or its fault.
-#[derive(Drop)]
+#[derive(Clone, Copy)]
 pub enum Head {
     Sized(Sizes),
     Unsized(u32),
 }
 
 // The kind, row and column that a line has to have.
-#[derive(Drop)]
+#[derive(Clone, Copy)]
 pub struct Due {
     pub kind: usize,
     pub row: usize,
@@ -26,7 +26,7 @@ pub struct Due {
 }
 
 // What a later line gives: its double, or its fault.
-#[derive(Drop)]
+#[derive(Clone, Copy)]
 pub enum Value {
     Double(f64),
     Fault(u32),

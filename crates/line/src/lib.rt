@@ -5,7 +5,7 @@ ghost use Rattle.std.specs.Prelude.{◌≡◌, ◌+◌, ◌<◌, ◌^◌};
 ghost use Rattle.line.specs.Line.{line_at, line_number, number_at};
 
 // What stands at a place of the text.
-#[derive(Drop)]
+#[derive(Clone, Copy)]
 pub enum Line {
     Frame {
         kind: usize,
@@ -44,14 +44,14 @@ pub fn line_at(s: &[u8], at: usize) -> Line
 }
 
 // A position in a sheet's text.
-#[derive(Drop)]
+#[derive(Clone, Copy)]
 pub struct Reader<'a> {
     pub sheet: &'a [u8],
     pub at: usize,
 }
 
 // A line, and the reader behind it.
-#[derive(Drop)]
+#[derive(Clone, Copy)]
 pub struct Step<'a> {
     pub line: Line,
     pub rest: Reader<'a>,

@@ -9,7 +9,7 @@ ghost use Rattle.momentum.specs.Ready.{MomentumReady};
 use image::Sizes;
 
 // The least margin and the largest total of the rows.
-#[derive(Drop)]
+#[derive(Clone, Copy)]
 pub struct Extremes {
     pub margin: i64,
     pub total: i64,

@@ -9,7 +9,7 @@ ghost use Rattle.page_line.specs.Effect.{effect_of, plus_for_minus, given, kept,
 use frame::Due;
 
 // What rounding did to a design number: it is kept as given, or moved to the double of its word.
-#[derive(Drop)]
+#[derive(Clone, Copy)]
 pub enum Effect {
     Kept(f64),
     Moved(f64, f64),

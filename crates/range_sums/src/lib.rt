@@ -6,7 +6,7 @@ ghost use Rattle.array.specs.Arrays.{Filled};
 ghost use Rattle.range_sums.specs.Ends.{sum_at, width_at, Ranged, RowReady, RowEndsOf};
 
 // A row's two sums, undivided.
-#[derive(Drop)]
+#[derive(Clone, Copy)]
 pub struct RowEnds {
     pub low: i64,
     pub high: i64,

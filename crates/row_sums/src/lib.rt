@@ -9,7 +9,7 @@ ghost use Rattle.row_sums.specs.Terms.{term_at, term_count, Scalable, RangesY, T
 use image::{Input, Sizes};
 
 // A term of a row's sum: of A, and of B for the state and for the target.
-#[derive(Drop)]
+#[derive(Clone, Copy)]
 pub enum Term {
     Range,
     GainRange(Input),

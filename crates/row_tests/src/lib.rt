@@ -13,7 +13,7 @@ ghost use Rattle.row_tests.specs.Tests.{test_at};
 use image::Sizes;
 
 // A test of each row: 7, 17, 8, and the first of 12.
-#[derive(Drop)]
+#[derive(Clone, Copy)]
 pub enum Test {
     Ordered,
     Stoppable,

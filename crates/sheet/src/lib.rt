@@ -13,7 +13,7 @@ use image::Sizes;
 use line::{Line, Reader};
 
 // What a sheet gives: its number, and with 0 how many words of the lent array are its image's.
-#[derive(Drop)]
+#[derive(Clone, Copy)]
 pub struct Outcome {
     pub number: u32,
     pub count: usize,
@@ -42,7 +42,7 @@ fn put_sizes(words: &mut [i64; 569], z: Sizes)
 }
 
 // How far a sheet is read: the sizes of line 01, the lines taken and those still due, and the number of the first fault.
-#[derive(Drop)]
+#[derive(Clone, Copy)]
 pub struct Progress {
     pub sizes: Sizes,
     pub taken: usize,
