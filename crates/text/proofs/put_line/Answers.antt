@@ -1,0 +1,38 @@
+use borrow.Author.Rules.{rules}
+use native.Mathlib.Omega.{arith}
+use mathlib.Core.Path.{ap, ◌∙◌}
+use mathlib.Core.List.{List}
+use Prim.Native.Nat.{ℕ, ◌+◌}
+use lib.ListN.{set, length-set}
+use Rattle.word.specs.Buffer.{put_at}
+use Rattle.hexadecimal.specs.Hex.{hex_digits}
+use Rattle.text.proofs.Written as written
+use Rattle.text.proofs.put_line.Goals as goal
+
+pub put_hex-requires-2 : goal.put_hex-requires-2
+put_hex-requires-2 c = simp length-set (omega (arith, c.put_hex.auto.out))
+
+pub bounds-out-at-2 : goal.bounds-out-at-2
+bounds-out-at-2 c = omega (arith, simp length-set at c.put_hex-2.auto.out, c.put_hex.auto.out)
+
+pub put_hex-requires-3 : goal.put_hex-requires-3
+put_hex-requires-3 c = simp length-set (omega (arith, simp length-set at c.put_hex-2.auto.out, c.put_hex.auto.out))
+
+pub bounds-out-at-3 : goal.bounds-out-at-3
+bounds-out-at-3 c = omega (arith, simp length-set at c.put_hex-3.auto.out, simp length-set at c.put_hex-2.auto.out, c.put_hex.auto.out)
+
+pub shape_of-out : goal.shape_of-out
+shape_of-out c = simp length-set ((simp length-set at c.put_hex-3.auto.out) ∙ (simp length-set at c.put_hex-2.auto.out) ∙ c.put_hex.auto.out)
+
+pub returns : goal.returns
+returns c =
+    let a = c in
+    let at = a.args.at in
+    let first = c.put_hex.ensures in
+    let second = c.put_hex-2.ensures in
+    let third = c.put_hex-3.ensures in
+    let d = hex_digits a.args.digits a.args.d in
+    ap (λ (o : List ℕ). set o (at + (18 + a.args.digits)) 10)
+    (third
+    ∙ ap (λ (o : List ℕ). put_at (set o (at + 17) 32) (at + 18) d) (second ∙ ap (λ (o : List ℕ). put_at (set o (at + 8) 32) (at + 9) (hex_digits 8 a.args.bound)) first))
+    ∙ written.put_line_lem a.args.command a.args.bound a.args.digits a.args.d a.args.out.now at a.requires
