@@ -1,5 +1,5 @@
 -- What the comparisons of `floor_integer`, `round_integer` and `nearest_integer` tell of a double y below 2^32 in magnitude. Assumes nothing.
-use Rattle.std.proofs.Common.{◌≡◌, ℕ, ◌+◌, ◌*◌, ◌%◌, ◌^◌, ◌<◌, ◌≤◌, true, false, T, ℤ, pos, ◌+ℤ◌, ◌-ℤ◌, ◌*ℤ◌, nat_abs, ◌≤ℤ◌, sym, ◌∙◌, subst, le_trans, lt_of_lt_of_le, le_of_lt, mul-le-mul_right, arith, lit≤}
+use Rattle.std.proofs.Common.{◌≡◌, ℕ, ◌*◌, ◌%◌, ◌^◌, ◌<◌, ◌≤◌, true, false, T, ℤ, pos, ◌+ℤ◌, ◌-ℤ◌, ◌*ℤ◌, nat_abs, sym, ◌∙◌, subst, le_trans, lt_of_lt_of_le, le_of_lt, mul-le-mul_right, arith, lit≤}
 use mathlib.Core.Bool.{false≢true}
 use lib.Signed.{lt_z}
 use lib.Ieee.{Float, nan, inf, fin, binary64, up, down, lt, mul, fits, of_int}

@@ -20,6 +20,7 @@ pub enum Line {
 }
 
 // The line at a place.
+#[tactic(auto, using(crate::proofs::Laws::no_end, crate::proofs::Laws::no_end_number))]
 pub fn line_at(s: &[u8], at: usize) -> Line
     ensures { (result ≡ line_at s.now at) × (line_number result ≡ number_at s.now at) }
 {

@@ -12,24 +12,19 @@ meets c r e = (e, ap limit_words_number e ∙ limits_number_lem c.args.b c.args.
 
 pub returns-in-Word-to_word : goal.returns-in-Word-to_word
 returns-in-Word-to_word c =
-    let start = c.before.before.before.before.before.before.before.before in
-    let low = c.before.before.before.before.before.low in
-    let high = c.before.high in
-    let p : to_z w64 (of_z w64 low.given.0.0) ≡ low.given.0.0 = search rules in
-    let q : to_z w64 (of_z w64 high.given.0.0) ≡ high.given.0.0 = search rules in
-    meets start _
+    let p : to_z w64 (of_z w64 c.in-Word.low) ≡ c.in-Word.low = search rules in
+    let q : to_z w64 (of_z w64 c.in-Word-to_word.high) ≡ c.in-Word-to_word.high = search rules in
+    meets (goal.at.returns-in-Word-to_word c).Start _
     (rw (p, q)
-    (limits_pair start.args.b start.args.w start.args.limits
-    (sym c.to_word.ensures.0 ∙ low.given.1) (sym c.to_word-in-Word.ensures.0 ∙ high.given.1)))
+    (limits_pair c.args.b c.args.w c.args.limits
+    (sym c.to_word.ensures.0 ∙ c.in-Word.is) (sym c.to_word-in-Word.ensures.0 ∙ c.in-Word-to_word.is)))
 
 pub returns-in-Refused-to_word : goal.returns-in-Refused-to_word
 returns-in-Refused-to_word c =
-    let start = c.before.before.before.before.before.before.before in
-    meets start NoPair
-    (limits_high start.args.b start.args.w start.args.limits
-    (sym c.to_word.ensures.0 ∙ c.before.before.before.before.low.given.1) (sym c.to_word-in-Word.ensures.0 ∙ c.in-Refused.is))
+    meets (goal.at.returns-in-Refused-to_word c).Start NoPair
+    (limits_high c.args.b c.args.w c.args.limits
+    (sym c.to_word.ensures.0 ∙ c.in-Word.is) (sym c.to_word-in-Word.ensures.0 ∙ c.in-Refused-to_word.is))
 
 pub returns-in-Refused : goal.returns-in-Refused
 returns-in-Refused c =
-    let start = c.before.before.before in
-    meets start NoPair (limits_low start.args.b start.args.w start.args.limits (sym c.to_word.ensures.0 ∙ c.in-Refused.is))
+    meets (goal.at.returns-in-Refused c).Start NoPair (limits_low c.args.b c.args.w c.args.limits (sym c.to_word.ensures.0 ∙ c.in-Refused.is))

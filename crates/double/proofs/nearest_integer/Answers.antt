@@ -1,5 +1,5 @@
 -- What its comparisons tell is in `Steps.antt`. Assumes nothing.
-use Rattle.std.proofs.Common.{◌≡◌, ℕ, zero, suc, ◌/◌, ◌%◌, ◌^◌, ◌≤◌, true, ℤ, pos, negsuc, ◌+ℤ◌, ◌*ℤ◌, neg_ℤ, nat_abs, refl, arith, to_z-of_z, w64, SFits, to_z, of_z, rules}
+use Rattle.std.proofs.Common.{◌≡◌, ℕ, zero, suc, ◌/◌, ◌%◌, ◌^◌, ◌≤◌, true, ℤ, pos, negsuc, ◌+ℤ◌, ◌*ℤ◌, neg_ℤ, nat_abs, refl, arith, to_z-of_z, w64, SFits, to_z, of_z}
 use lib.Signed.{quot_z, rem_z}
 use denote.Floats.{passes}
 use Rattle.integer.proofs.Machine.{fit_abs, sfits_add, sfits_mul}
@@ -37,7 +37,7 @@ module _ (c : Start) where
   q = c.args.q
 
   known : ByFloor c.args.y q
-  known = by_floor c.args.y q (passes _ c.well_formed.0.1) (small c.args.y c.requires.0.0 c.requires.0.1) c.requires.1
+  known = by_floor c.args.y q (passes _ c.well_formed.0.1) (small c.args.y c.requires.y_value.0 c.requires.y_value.1) c.requires.q_value
 
   read : to_z w64 (of_z w64 q) ≡ q
   read = to_z-of_z (fit_abs q (let k = known.small in omega arith))
@@ -52,42 +52,42 @@ module _ (c : Start) where
   more-fits = sfits_add q (pos 1) (2 ^ 32) 1 known.small (omega arith) (omega arith)
 
 pub overflow_mul-twice_middle : goal.overflow_mul-twice_middle
-overflow_mul-twice_middle c = rw (read c.before) (twice-fits c.before)
+overflow_mul-twice_middle c = let a = (goal.at.overflow_mul-twice_middle c).Start in rw (read a) (twice-fits a)
 
 pub overflow_add-twice_middle : goal.overflow_add-twice_middle
-overflow_add-twice_middle c = let a = c.before in rw (read a, to_z-of_z (twice-fits a)) (fit_abs (middle (q a)) (let k = (known a).middle_small in omega arith))
+overflow_add-twice_middle c = let a = (goal.at.overflow_add-twice_middle c).Start in rw (read a, to_z-of_z (twice-fits a)) (fit_abs (middle (q a)) (let k = (known a).middle_small in omega arith))
 
 pub int_to_float-twice_middle : goal.int_to_float-twice_middle
-int_to_float-twice_middle c = let a = c.before.before in rw (middle-read a) (in_float_lem (middle (q a)) (let k = (known a).middle_small in omega arith))
+int_to_float-twice_middle c = let a = (goal.at.int_to_float-twice_middle c).Start in rw (middle-read a) (in_float_lem (middle (q a)) (let k = (known a).middle_small in omega arith))
 
 pub returns-then-twice_y-twice_middle : goal.returns-then-twice_y-twice_middle
 returns-then-twice_y-twice_middle c =
-    let a = c.before.before.before in
+    let a = (goal.at.returns-then-twice_y-twice_middle c).Start in
     rw (read a) ((known a).before (rw (middle-read a, c.scaled-twice_y.ensures) at c.if-twice_y-twice_middle.true))
 
 pub overflow_add-result : goal.overflow_add-result
-overflow_add-result c = let a = c.before.before.before.before in rw (read a) (more-fits a)
+overflow_add-result c = let a = (goal.at.overflow_add-result c).Start in rw (read a) (more-fits a)
 
 pub returns-then-twice_middle-twice_y : goal.returns-then-twice_middle-twice_y
 returns-then-twice_middle-twice_y c =
-    let a = c.before.before.before.before in
+    let a = (goal.at.returns-then-twice_middle-twice_y c).Start in
     rw (read a, to_z-of_z (more-fits a)) ((known a).after (rw (middle-read a, c.scaled-twice_y.ensures) at c.if-twice_middle-twice_y.true))
 
 pub nonzero_rem-q : goal.nonzero_rem-q
-nonzero_rem-q c = let a = c.before.before.before.before in (omega arith, rw (read a) (half-fits (q a) (known a).small))
+nonzero_rem-q c = let a = (goal.at.nonzero_rem-q c).Start in (omega arith, rw (read a) (half-fits (q a) (known a).small))
 
 pub overflow_add-result-else-q-eq0 : goal.overflow_add-result-else-q-eq0
-overflow_add-result-else-q-eq0 c = let a = c.before.before.before.before.before in rw (read a) (more-fits a)
+overflow_add-result-else-q-eq0 c = let a = (goal.at.overflow_add-result-else-q-eq0 c).Start in rw (read a) (more-fits a)
 
 pub returns-then-q-eq0 : goal.returns-then-q-eq0
 returns-then-q-eq0 c =
-    let a = c.before.before.before.before.before in
+    let a = (goal.at.returns-then-q-eq0 c).Start in
     let e = c.scaled-twice_y.ensures in
     rw (read a) ((known a).even (rw (middle-read a, e) at c.if-twice_y-twice_middle.false) (rw (middle-read a, e) at c.if-twice_middle-twice_y.false) ((parity (q a)).0 (rw (read a) at c.if-q-eq0.true)))
 
 pub returns-else-q-eq0 : goal.returns-else-q-eq0
 returns-else-q-eq0 c =
-    let a = c.before.before.before.before.before in
+    let a = (goal.at.returns-else-q-eq0 c).Start in
     let e = c.scaled-twice_y.ensures in
     rw (read a, to_z-of_z (more-fits a))
     ((known a).odd (rw (middle-read a, e) at c.if-twice_y-twice_middle.false) (rw (middle-read a, e) at c.if-twice_middle-twice_y.false) ((parity (q a)).1 (rw (read a) at c.if-q-eq0.false)))

@@ -1,4 +1,3 @@
-use Rattle.std.proofs.Common.{rules}
 use Rattle.double.proofs.Pattern.{nan_pattern, no_nan_pattern}
 use Rattle.double.proofs.of_pattern.Goals as goal
 

@@ -1,4 +1,4 @@
-use Rattle.std.proofs.Common.{arith, rules}
+use Rattle.std.proofs.Common.{arith}
 use Rattle.double.proofs.Scale.{power_is}
 use Rattle.double.proofs.power_of_two.Goals as goal
 

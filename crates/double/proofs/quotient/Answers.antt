@@ -1,4 +1,4 @@
-use Rattle.std.proofs.Common.{to_z-of_z, rules}
+use Rattle.std.proofs.Common.{to_z-of_z}
 use Rattle.double.proofs.Back.{in_float_lem, quotient_is}
 use Rattle.double.proofs.quotient.Goals as goal
 

@@ -1,4 +1,4 @@
-use Rattle.std.proofs.Common.{ap, rules}
+use Rattle.std.proofs.Common.{ap}
 use lib.Ieee.{binary64, mul}
 use Rattle.double.proofs.scaled.Goals as goal
 

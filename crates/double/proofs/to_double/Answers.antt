@@ -1,6 +1,5 @@
-use Rattle.std.proofs.Common.{◌≡◌, ℕ, suc, ◌^◌, Bool, true, false, pos, nat_abs, sym, ap, ◌∙◌, arith, to_z-of_z, rules}
+use Rattle.std.proofs.Common.{◌≡◌, ℕ, suc, ◌^◌, Bool, true, false, pos, nat_abs, sym, ap, ◌∙◌, arith, to_z-of_z}
 use lib.Ieee.{fin, binary64, round}
-use borrow.Author.Tests.{not-true, not-false}
 use Rattle.double.specs.Double.{is_negative, answer, double_answer, HasQuotient}
 use Rattle.word.specs.Format.{is_format, in_word}
 use Rattle.double.specs.declared.DoubleAnswer.{DoubleAnswer}
@@ -29,7 +28,7 @@ module _ (c : After-is_word) where
   start = c.before.before.before
 
   word-is : (r : Bool) → c.is_word.result ≡ r → in_word start.args.w start.args.z ≡ r
-  word-is r e = ap (in_word start.args.w) (sym (to_z-of_z start.fits.z)) ∙ sym c.is_word.ensures ∙ e
+  word-is r e = ap (in_word start.args.w) (sym (to_z-of_z start.ranges.z)) ∙ sym c.is_word.ensures ∙ e
 
 pub returns-then-not-is_format : goal.returns-then-not-is_format
 returns-then-not-is_format c =
@@ -50,7 +49,7 @@ quotient-x-requires c =
     let a = start c.before in
     let k = known c.before.before in
     let h = word_small a.args.w a.args.z k.width_most (word-is c.before true (c.if-not-is_word.false)) in
-    (k.fraction_most, rw (to_z-of_z a.fits.z) (omega arith))
+    (k.fraction_most, rw (to_z-of_z a.ranges.z) (omega arith))
 
 pub returns : goal.returns
 returns c =
@@ -60,5 +59,5 @@ returns c =
     let z = a.args.z in
     let k = known c.before.before.before in
     let i : in_word w z ≡ true = word-is c.before.before true (c.if-not-is_word.false) in
-    let e : c.quotient-x.result ≡ round binary64 (is_negative z) (nat_abs z) (2 ^ b) = c.quotient-x.ensures ∙ rw (to_z-of_z a.fits.z) in
+    let e : c.quotient-x.result ≡ round binary64 (is_negative z) (nat_abs z) (2 ^ b) = c.quotient-x.ensures ∙ rw (to_z-of_z a.ranges.z) in
     (answer_0 b w z c.quotient-x.result (format-is c.before.before.before) i e, λ _. rw e (quotient_exact z b (omega (arith, word_small w z k.width_most i)) (omega arith)))

@@ -1,5 +1,5 @@
 -- `rounded_word`'s answer for x * 2^b, which the machine has exactly. Assumes nothing.
-use Rattle.std.proofs.Common.{◌≡◌, true, sym, ap, ◌∙◌, arith, rules}
+use Rattle.std.proofs.Common.{◌≡◌, true, sym, ap, ◌∙◌, arith}
 use lib.Ieee.{Float}
 use denote.Floats.{passes}
 use Rattle.double.specs.Double.{rule_of, rounded_word, convert, converted_number, conversion_number}

@@ -1,0 +1,19 @@
+use native.Mathlib.Omega.{arith}
+use lib.Pow.{pow_pos}
+use mathlib.Core.Path.{◌≡◌, refl}
+use mathlib.Core.Bool.{true}
+use Prim.Native.Nat.{ℕ, ◌+◌, ◌*◌, ◌-◌, ◌^◌, ◌≤◌, ◌<◌}
+use native.Mathlib.Nat.{le_trans, mul-le-mul}
+use lib.ListN.{get_or}
+use Rattle.integer.specs.Round.{ceil}
+use Rattle.integer.proofs.Floor.{ceil_most}
+use Rattle.array.proofs.Filling.{full, Storing, storing_none, storing_more}
+use Rattle.bounds.specs.Steps.{q_at}
+use Rattle.bounds.proofs.store.Given as goal
+
+abbrev pub invariant-loop-i : goal.invariant-loop-i
+invariant-loop-i l =
+    Storing 0 (λ k. get_or l.new k 0) (q_at l.t l.new l.initial.e) l.n l.i l.initial.e l.initial.q l.e l.q l.same
+
+abbrev pub decreases-loop-i : goal.decreases-loop-i
+decreases-loop-i l = l.n - l.i
