@@ -36,22 +36,16 @@ extern "C" {
 #define GANTRY_RANGES_BYTES(nx) (8 * (size_t)(nx))
 #define GANTRY_TARGET_BYTES(nr) (4 * (size_t)(nr))
 #define GANTRY_START_BYTES(n) (4 * (size_t)(n))
-/* Factors: two bounds, and two tables' rows up to the diagonal. Or nothing is lent, a length of 0. */
-#define GANTRY_FACTOR_BYTES(n) (4 * (size_t)(2 + (n) * ((n) + 1)))
 #define GANTRY_ANSWER_BYTES(n) (8 * (size_t)(n) + 8)
 #define GANTRY_RANGE_ANSWER_BYTES(n) (8 * (size_t)(n))
 /* What a commit writes: the commands of one step. */
 #define GANTRY_COMMANDS_BYTES(nu) (4 * (size_t)(nu))
-/* A drive, whatever its image, its factors and its number of heads, which is 1 to GANTRY_MAX_HEADS. */
-#define GANTRY_DRIVE_BYTES 4220
+/* A drive, whatever its image and its number of heads, which is 1 to GANTRY_MAX_HEADS. */
+#define GANTRY_DRIVE_BYTES 3120
 #define GANTRY_MAX_HEADS 4
-/* Large enough for every image, every page and all factors: n 16, nx 12, nr 4. */
+/* Large enough for every image and every page: n 16, nx 12, nr 4. */
 #define GANTRY_MAX_IMAGE_BYTES GANTRY_IMAGE_BYTES(GANTRY_MAX_COMMANDS, GANTRY_MAX_STATES, GANTRY_MAX_TARGETS)
 #define GANTRY_MAX_PAGE_BYTES GANTRY_PAGE_BYTES(GANTRY_MAX_COMMANDS, GANTRY_MAX_STATES, GANTRY_MAX_TARGETS)
-#define GANTRY_MAX_FACTOR_BYTES GANTRY_FACTOR_BYTES(GANTRY_MAX_COMMANDS)
-
-/* What stands in the place of D where none is given: with factors lent, where 9 or 10 alone would refuse. No D is that. */
-#define GANTRY_NO_DISTANCE UINT64_MAX
 
 /* Stack enough for any call: the compiled archive takes 10 KiB at most, read off its machine code (README has the
  * figures), and the rest is for the memcpy and memset that the firmware supplies. */
@@ -79,90 +73,64 @@ enum gantry_number {
     GANTRY_NO_STOP = 17,       /* a command's low limit is above 0 or its high limit below 0; tested directly after 7 */
     GANTRY_NO_ANSWER = 18,     /* a commit without a waiting answer */
     GANTRY_NOT_IDLE = 19,      /* a new image, itself acceptable, while any head made has a waiting answer */
-    GANTRY_NO_SWEEPS = 20,     /* an ask, itself acceptable, for which own share and common part together fall short */
-    GANTRY_BAD_FACTORS = 21    /* lent factors of another length, out of range, or not of this table; instead of 9 and 10 */
+    GANTRY_NO_SWEEPS = 20      /* an ask, itself acceptable, for which own share and common part together fall short */
 };
 
-/* ---- factors: cost tables that are not dominant by rows
- *
- * Most condensed cost tables are positive definite, but a row's diagonal does not outweigh the rest of its row, and 9
- * refuses them. The design office may then lend factors beside the sheet or the image: signed big-endian 32-bit words m,
- * U, then the rows up to the diagonal of a lower triangular table C, then those of another, E; GANTRY_FACTOR_BYTES. H is
- * the cost table in counts. Each call that tests an image takes them; with a length of 0, and any pointer that is not null,
- * nothing is lent. Nothing lent: 9 and 10 are tested, and 11 goes by the least margin and the largest total. Lent: 21 is
- * tested in the place of 9 and 10, also where these would pass, and 11 goes by the lent m and U. It refuses
- * - another length than GANTRY_FACTOR_BYTES;
- * - anything but 1 <= m <= U <= 2^b;
- * - an entry of C or E of a magnitude above 2^20;
- * - a row in which the diagonal entry is below the sum of the other magnitudes, in one of the two remainders: that of
- *   2^b * (H - m on the diagonal) less C times its transpose, and that of 2^b * (U on the diagonal - H) less E times its
- *   transpose.
- * Proved of all factors that pass, whoever made them: for every vector v of whole numbers, m times the sum of its squares
- * is at most v's quadratic form by H, and that is at most U times the sum. examples/factors.c makes factors of a sheet.
- * Commands, headroom and error bounds are promised of such an image as of any other. D is given only where 9 and 10 would
- * pass too, and then by the least margin of 9, never by the lent m; elsewhere its word is GANTRY_NO_DISTANCE. */
-
 /* Reads a design sheet and writes its image. image_len must be the image's exact length (15), which is known from the
- * sheet's first line: GANTRY_IMAGE_BYTES. Numbers: 0, 1 to 5, 7 to 12, 15, 17, 21.
+ * sheet's first line: GANTRY_IMAGE_BYTES. Numbers: 0, 1 to 5, 7 to 12, 15, 17.
  * An entry of a table becomes the nearest count, at a tie the even one; a low limit is rounded up, a high one down, the
- * step factor and the limits of state and target up. An image written here is accepted by the calls below with the same
- * factors; it does not hold them, so they are stored beside it.
+ * step factor and the limits of state and target up. An image written here is accepted by the calls below.
  * What a sheet or a stored image of an earlier archive is today: docs/UPGRADING.md. */
-uint32_t gantry_intake(const uint8_t *sheet, size_t sheet_len, const uint8_t *factors, size_t factors_len,
-                       uint8_t *image, size_t image_len);
+uint32_t gantry_intake(const uint8_t *sheet, size_t sheet_len, uint8_t *image, size_t image_len);
 
 /* Reads a design sheet and writes its design page, which shows what rounding did: a line of 43 characters and byte 10 for
  * each design number, in sheet order. page_len must be the page's exact length (15): GANTRY_PAGE_BYTES. Numbers: those of
- * gantry_intake, which accepts the same sheets with the same factors; no byte of the page depends on them. A line is kind, row and column, given double, kept double, K or M:
+ * gantry_intake, which accepts the same sheets. A line is kind, row and column, given double, kept double, K or M:
  *     05 0000 3FA0000000000000 0000000000000000 M
  * The kept double is exactly that of the image's word; K stands where its value is the given one, M where it moved. */
-uint32_t gantry_page(const uint8_t *sheet, size_t sheet_len, const uint8_t *factors, size_t factors_len, uint8_t *page,
-                     size_t page_len);
+uint32_t gantry_page(const uint8_t *sheet, size_t sheet_len, uint8_t *page, size_t page_len);
 
-/* Writes a start of all zeros, 4n bytes. Numbers: 0, 3, 5 to 12, 15, 17, 21. Zero is within the limits of every command of
- * an accepted image, so what it writes is a start that gantry_solve accepts, and commands that stop the drive. */
-uint32_t gantry_cold_start(const uint8_t *image, size_t image_len, const uint8_t *factors, size_t factors_len,
-                           uint8_t *start, size_t start_len);
+/* Writes a start of all zeros, 4n bytes. Numbers: 0, 3, 5 to 12, 15, 17. Zero is within the limits of every command of an
+ * accepted image, so what it writes is a start that gantry_solve accepts, and commands that stop the drive. */
+uint32_t gantry_cold_start(const uint8_t *image, size_t image_len, uint8_t *start, size_t start_len);
 
 /* Runs the image's sweeps from a start and writes 8n + 8 bytes, GANTRY_ANSWER_BYTES: n commands as signed big-endian 32-bit
  * words, then n error bounds as unsigned ones, then D as one unsigned big-endian 64-bit word, all in counts of 2^-b. State,
- * target and start are signed big-endian 32-bit words; with nr 0 the target is empty. Numbers: 0, 3, 5 to 17, 21, tested
- * 6, 3, 6, 5, 7, 17, 8, then 9 and 10, or where factors are lent 21, then 11, 12, 13, 16, 14, 15.
+ * target and start are signed big-endian 32-bit words; with nr 0 the target is empty. Numbers: 0, 3, 5 to 17, tested 6, 3,
+ * 6, 5, 7, 17, 8 to 13, 16, 14, 15.
  * With 0:
  * - each command lies within the limits of its own step;
  * - it differs from the command of the exact scheme, which rounds nothing, after the same sweeps, by at most its bound;
- * - where 9 and 10 pass it is within D counts of the optimum, the sequence that equals its own gradient step, held to the
- *   limits; D is below 2^52, and 0 exactly where the commands are the optimum. Elsewhere, which takes factors, no D is
- *   given: its word is GANTRY_NO_DISTANCE.
+ * - it is within D counts of the optimum, the sequence that equals its own gradient step, held to the limits; D is below
+ *   2^52, and 0 exactly where the commands are the optimum.
  * The bound tells what rounding did, and is the image's alone; D tells how far this answer is from the best one, whatever
  * the bound says, and so depends on state, target, start and sweeps too. A row's products are added in 64 bits, which they
  * do not leave, and divided once, so a row loses at most one count. The commands, the first 4n bytes, are again a start that
  * a solve on this image accepts. */
 uint32_t gantry_solve(const uint8_t *image, size_t image_len, const uint8_t *state, size_t state_len,
                       const uint8_t *target, size_t target_len, const uint8_t *start, size_t start_len,
-                      const uint8_t *factors, size_t factors_len, uint8_t *answer, size_t answer_len);
+                      uint8_t *answer, size_t answer_len);
 
 /* The solve of a state that is known only within ranges, as worn encoders give it: carries a lowest and a highest value
  * through the image's sweeps and writes 8n bytes, GANTRY_RANGE_ANSWER_BYTES: the n lowest commands, then the n highest, as
  * signed big-endian 32-bit words in counts of 2^-b; no bounds and no D. The ranges are nx low words, then nx high words,
- * GANTRY_RANGES_BYTES, signed big-endian as a state; both ends belong to a range. Target, start, factors, numbers and the
- * order of the checks are those of gantry_solve: 13 is another length of the ranges, a low above its high, or an end beyond
- * plus or minus the state limit.
+ * GANTRY_RANGES_BYTES, signed big-endian as a state; both ends belong to a range. Target, start, numbers and the order of
+ * the checks are those of gantry_solve: 13 is another length of the ranges, a low above its high, or an end beyond plus or
+ * minus the state limit.
  * With 0:
- * - for every state within the ranges gantry_solve with this image, target, start and these factors, and a buffer of its
- *   own length, is accepted, and each of its commands lies between the lowest and the highest of that command, after each
- *   sweep;
+ * - for every state within the ranges gantry_solve with this image, target and start, and a buffer of its own length, is
+ *   accepted, and each of its commands lies between the lowest and the highest of that command, after each sweep;
  * - ranges of one value, each low its high, give that solve's commands twice;
  * - lowest and highest lie within the limits of the command's own step, so each n of them are again a start.
  * No command lies outside; but the two may be further apart than the commands of all states within the ranges are. */
 uint32_t gantry_range_solve(const uint8_t *image, size_t image_len, const uint8_t *ranges, size_t ranges_len,
                             const uint8_t *target, size_t target_len, const uint8_t *start, size_t start_len,
-                            const uint8_t *factors, size_t factors_len, uint8_t *answer, size_t answer_len);
+                            uint8_t *answer, size_t answer_len);
 
 /* ---- drives: ask first, then commit
  *
- * A drive is a buffer of GANTRY_DRIVE_BYTES that the caller keeps. It holds an image with the factors that were lent
- * beside it, and 1 to 4 heads, a pen and a knife, say: of each head a start, perhaps a waiting answer, and what it has left of its own share of a period's
+ * A drive is a buffer of GANTRY_DRIVE_BYTES that the caller keeps. It holds an image and 1 to 4 heads, a pen and a
+ * knife, say: of each head a start, perhaps a waiting answer, and what it has left of its own share of a period's
  * sweeps; and what is left of their common part. Its bytes are the library's: make writes all of them, the other calls
  * go on from there, and nobody else should write them. It holds no pointer, so it may be copied, stored and moved; a
  * copy is a drive of its own, its sweeps counted apart. Every byte string is a drive with a defined outcome, proved
@@ -182,13 +150,11 @@ uint32_t gantry_range_solve(const uint8_t *image, size_t image_len, const uint8_
  *   than it then has left of its own share, what is asked, committed and done for the others, or refused, changes no
  *   number, answer, start or share of this head, but that an answer that waits keeps a new image away (19). */
 
-/* Makes a drive of an image, tested with the factors as by a solve up to 12, and 1 to 4 heads (3, before all else): it
- * holds the image, the factors and of each head a start of zeros; no answer waits, and there are no sweeps until a
- * period begins. All of its bytes are written, whatever it was before. drive_len must be GANTRY_DRIVE_BYTES (15).
- * Numbers: 0, 3, 5 to 12, 15, 17, 21. Image and factors are copied: their own buffers are no longer needed, and an ask is
- * not lent them again. */
-uint32_t gantry_make(const uint8_t *image, size_t image_len, const uint8_t *factors, size_t factors_len, uint32_t heads,
-                     uint8_t *drive, size_t drive_len);
+/* Makes a drive of an image, tested as by a solve up to 12, and 1 to 4 heads (3, before all else): it holds the image
+ * and of each head a start of zeros; no answer waits, and there are no sweeps until a period begins. All of its bytes
+ * are written, whatever it was before. drive_len must be GANTRY_DRIVE_BYTES (15). Numbers: 0, 3, 5 to 12, 15, 17. The
+ * image is copied: its own buffer is no longer needed. */
+uint32_t gantry_make(const uint8_t *image, size_t image_len, uint32_t heads, uint8_t *drive, size_t drive_len);
 
 /* Begins a period of S sweeps: what was left of the one before lapses, each head owns its share of S, also one that was
  * done, and the remainder is common. Starts and waiting answers stay. Where S is at least the number of heads times the
@@ -197,11 +163,11 @@ uint32_t gantry_make(const uint8_t *image, size_t image_len, const uint8_t *fact
 uint32_t gantry_period(uint8_t *drive, size_t drive_len, uint16_t sweeps);
 
 /* Solves on the drive's image from the head's start: number, answer and what is promised of it are those of
- * gantry_solve with this image, its factors and this start, behind the checks of head and drive_len (3, 15, 3), and before that of the
+ * gantry_solve with this image and start, behind the checks of head and drive_len (3, 15, 3), and before that of the
  * sweeps (20). With 0 the answer, GANTRY_ANSWER_BYTES, is written and kept as the head's waiting one, in place of an
  * earlier one, and the image's sweeps are taken; the start stays, so asks may be repeated while the sweeps last. A
  * refused ask takes no sweeps, and leaves the earlier answer waiting. Numbers of a drive that these calls alone have
- * written: 0, 3, 13, 15, 16, 20; of a damaged one also 5 to 12, 14, 17, 21. */
+ * written: 0, 3, 13, 15, 16, 20; of a damaged one also 5 to 12, 14, 17. */
 uint32_t gantry_ask(uint8_t *drive, size_t drive_len, uint32_t head, const uint8_t *state, size_t state_len,
                     const uint8_t *target, size_t target_len, uint8_t *answer, size_t answer_len);
 
@@ -217,14 +183,12 @@ uint32_t gantry_commit(uint8_t *drive, size_t drive_len, uint32_t head, uint8_t 
  * Numbers: 0, 3, 15, tested 3, 15, 3. */
 uint32_t gantry_done(uint8_t *drive, size_t drive_len, uint32_t head);
 
-/* Replaces the image of a drive and its factors, for every head made, while none of them has a waiting answer (19): the
- * starts are zeros again. The number of heads and the sweeps that are left stay, and later asks cost the new image's
- * sweeps; all other bytes are as gantry_make with this image and these factors leaves them: the factors from before go
- * with their image, also where nothing is lent now. It may have other sizes than the one before. Numbers: 0, 3, 5 to 12,
- * 15, 17, 19, 21. The image is tested first, with the factors as by gantry_make, then drive_len, then 19: an image that
- * is itself refused has its own number, whether an answer waits or not. */
-uint32_t gantry_new_image(uint8_t *drive, size_t drive_len, const uint8_t *image, size_t image_len,
-                          const uint8_t *factors, size_t factors_len);
+/* Replaces the image of a drive, for every head made, while none of them has a waiting answer (19): the starts are
+ * zeros again. The number of heads and the sweeps that are left stay, and later asks cost the new image's sweeps; all
+ * other bytes are as gantry_make with this image leaves them. It may have other sizes than the one before. Numbers: 0,
+ * 3, 5 to 12, 15, 17, 19. The image is tested first, as by gantry_make, then drive_len, then 19: an image that is
+ * itself refused has its own number, whether an answer waits or not. */
+uint32_t gantry_new_image(uint8_t *drive, size_t drive_len, const uint8_t *image, size_t image_len);
 
 #ifdef __cplusplus
 }

@@ -27,8 +27,8 @@ pub record Solvable (image state target start : List ℕ) : Type 0 where
   pub start_size : length start ≡ 4 * command_count (sizes_of image)
   pub starts : T (start_within (problem_of image) (start_of (sizes_of image) start))
 
--- 9 and 10 passed, as D of request 8 asks them; the rest of a solve, and demand 3, ask neither, so an image that lent factors let pass may be
--- without: m is at least 1 count, and a gradient step brings any two sequences nearer by m of 2^b
+-- 9 and 10 passed, as D of request 8 asks them; the rest of a solve, and demand 3, ask neither: m is at least 1 count, and a gradient step
+-- brings any two sequences nearer by m of 2^b
 pub record Dominant (image : List ℕ) : Type 0 where
   pub positive : pos 1 ≤ℤ least_margin (sizes_of image) image
   pub contracts : T (contracting (problem_of image) (margin_of image))

@@ -1,6 +1,5 @@
--- The calls on an image: the number of each for every input, and the bytes that it answers. The factors are the lent bytes, none where nothing
--- is lent; they have a say in the number alone. Assumes nothing.
-use Rattle.std.specs.Prelude.{ℕ, ◌+◌, ◌-◌, ◌*◌, ◌^◌, Bool, cond, ◌&&◌, List, [], ◌∷◌, ◌++◌, map, eqb, leb, length, ℤ, pos, nat_abs}
+-- The calls on an image: the number of each for every input, and the bytes that it answers. Assumes nothing.
+use Rattle.std.specs.Prelude.{ℕ, ◌+◌, ◌*◌, Bool, ◌&&◌, List, [], ◌∷◌, ◌++◌, map, eqb, leb, length, ℤ, pos, nat_abs}
 use Rattle.word.specs.Word.{words_at, words_out, pattern_bytes}
 use Rattle.gradient.specs.Problem.{cold_start}
 use Rattle.gradient.specs.Scheme.{iterate}
@@ -13,7 +12,7 @@ use Rattle.image.specs.declared.Input.TheVariants.{State, Target}
 use Rattle.image.specs.Order.{Check, check, first_fault, or_else, buffer_number}
 use Rattle.image.specs.Sizes.{command_count, input_count}
 use Rattle.image.specs.Layout.{sizes_of, problem_of, limits_of}
-use Rattle.interface.specs.Tables.{margin_of, distance_given, image_number}
+use Rattle.interface.specs.Tables.{margin_of, image_number}
 
 -- "state and start are big-endian words as in the image", and so is a target: the values of an input
 unfoldable pub values_of : Input → Sizes → List ℕ → List ℤ
@@ -28,8 +27,8 @@ start_of z start = words_at start 0 (command_count z)
 
 -- ---- a cold start
 -- "a cold start likewise without 13 and 14"
-unfoldable pub cold_number : List ℕ → List ℕ → ℕ → ℕ
-cold_number image factors room = or_else (image_number image factors) (buffer_number (4 * command_count (sizes_of image)) room)
+unfoldable pub cold_number : List ℕ → ℕ → ℕ
+cold_number image room = or_else (image_number image) (buffer_number (4 * command_count (sizes_of image)) room)
 
 -- "the cold start, 4n bytes", "all zeros"
 unfoldable pub cold_answer : List ℕ → List ℕ
@@ -58,16 +57,16 @@ unfoldable pub call_number : List ℕ → List ℕ → List ℕ → List ℕ →
 call_number image state target start = first_fault (check 13 (input_passes State (sizes_of image) image state) ∷ target_and_start image target start)
 
 -- "a solve is tested 6, 3, 6, 5, then 7 to" 14, with 17 after 7 and 16 after 13: all of it but its own buffer
-unfoldable pub solvable_number : List ℕ → List ℕ → List ℕ → List ℕ → List ℕ → ℕ
-solvable_number image state target start factors = or_else (image_number image factors) (call_number image state target start)
+unfoldable pub solvable_number : List ℕ → List ℕ → List ℕ → List ℕ → ℕ
+solvable_number image state target start = or_else (image_number image) (call_number image state target start)
 
 -- how long an answer is: "8n bytes", which request 8 lets grow "by one unsigned 64-bit word"
 abbrev pub answer_length : Sizes → ℕ
 answer_length z = 8 * command_count z + 8
 
 -- then "15"
-unfoldable pub solve_number : List ℕ → List ℕ → List ℕ → List ℕ → List ℕ → ℕ → ℕ
-solve_number image state target start factors room = or_else (solvable_number image state target start factors) (buffer_number (answer_length (sizes_of image)) room)
+unfoldable pub solve_number : List ℕ → List ℕ → List ℕ → List ℕ → ℕ → ℕ
+solve_number image state target start room = or_else (solvable_number image state target start) (buffer_number (answer_length (sizes_of image)) room)
 
 -- ---- the answer of a solve
 -- the commands and the bounds after k sweeps
@@ -82,20 +81,13 @@ unfoldable pub distance_after : List ℕ → List ℕ → List ℕ → List ℕ 
 distance_after image state target start k =
     optimum_bound (problem_of image) (margin_of image) (inputs_of (sizes_of image) state target) (commands_after image state target start k)
 
--- "D is given only when checks 9 and 10 pass as well, else its word is all ones"
-abbrev pub no_distance : ℕ
-no_distance = 2 ^ 64 - 1
-
-unfoldable pub distance_word : List ℕ → List ℕ → List ℕ → List ℕ → ℕ → ℕ
-distance_word image state target start k = cond (distance_given (sizes_of image) image) (distance_after image state target start k) no_distance
-
 -- "8n bytes: n commands, then n bounds as unsigned 32-bit words, big-endian too"
 abbrev pub commands_and_bounds : List ℕ → List ℕ → List ℕ → List ℕ → ℕ → List ℕ
 commands_and_bounds image state target start k = words_out (commands_after image state target start k) ++ words_out (map pos (bounds_after image k))
 
--- the answer of k sweeps: behind them "one unsigned 64-bit word holding D, most significant byte first", or all ones
+-- the answer of k sweeps: behind them "one unsigned 64-bit word holding D, most significant byte first"
 abbrev pub answer_after : List ℕ → List ℕ → List ℕ → List ℕ → ℕ → List ℕ
-answer_after image state target start k = commands_and_bounds image state target start k ++ pattern_bytes (distance_word image state target start k)
+answer_after image state target start k = commands_and_bounds image state target start k ++ pattern_bytes (distance_after image state target start k)
 
 -- "the answer" of a solve: after the image's own sweeps
 unfoldable pub solve_answer : List ℕ → List ℕ → List ℕ → List ℕ → List ℕ

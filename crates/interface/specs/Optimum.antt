@@ -21,7 +21,7 @@ StepByCost z image inputs N Ps i =
     gradient_step inputs N Ps (command_at z image i)
     ≡ pos (2 ^ z.b) *ℤ get_or Ps i (pos 0) -ℤ total (products (costs_of z image i) Ps) -ℤ pos N *ℤ exact_linear inputs (command_at z image i)
 
--- where 9 and 10 pass, after k sweeps: each command is within D counts of every optimum, and D is 0 exactly at one; every sum on the way to D is "within 64
+-- after k sweeps: each command is within D counts of every optimum, and D is 0 exactly at one; every sum on the way to D is "within 64
 -- bits", and D below 2^52
 pub record DistanceClaim (image state target start : List ℕ) (k : ℕ) : Type 0 where
   pub from_optimum : NearOptimum (problem_of image) (inputs_of (sizes_of image) state target) (commands_after image state target start k) (distance_after image state target start k)

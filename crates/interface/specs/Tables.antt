@@ -1,6 +1,5 @@
--- Document 01, "Place of each check", with request 13: the tables, and the number of an image. f are the bytes of the lent factors, none where
--- nothing is lent. Assumes nothing.
-use Rattle.std.specs.Prelude.{ℕ, zero, suc, ◌+◌, ◌-◌, ◌*◌, ◌^◌, Bool, cond, ◌&&◌, List, [], ◌∷◌, ◌++◌, eqb, leb, ℤ, pos, nat_abs, ◌+ℤ◌, ◌-ℤ◌, ◌*ℤ◌}
+-- Document 01, "Place of each check": the tables, and the number of an image. Assumes nothing.
+use Rattle.std.specs.Prelude.{ℕ, zero, suc, ◌+◌, ◌-◌, ◌*◌, ◌^◌, Bool, cond, ◌&&◌, List, [], ◌∷◌, eqb, leb, ℤ, pos, nat_abs, ◌+ℤ◌, ◌-ℤ◌, ◌*ℤ◌}
 use Rattle.std.specs.Int.Signed.{le_z}
 use Rattle.word.specs.Format.{top}
 use Rattle.word.specs.Word.{word_at}
@@ -11,8 +10,6 @@ use Rattle.image.specs.Order.{Check, check, first_fault, or_else}
 use Rattle.image.specs.Sizes.{command_count}
 use Rattle.image.specs.Layout.{sizes_of, cost_row, cost_at, lower_at, upper_at, momentum_at, command_at, problem_at}
 use Rattle.image.specs.Checks.{head_number, body_number}
-use Rattle.lent.specs.declared.Side.TheVariants.{Least, Most}
-use Rattle.lent.specs.Lent.{lends, bound_of, lent_test}
 
 -- ---- 7: "a low above its high"
 abbrev pub order_test : Sizes → List ℕ → ℕ → Bool
@@ -52,7 +49,7 @@ margin_test z s i = le_z (pos 1) (margin_at z s i)
 abbrev pub total_test : Sizes → List ℕ → ℕ → Bool
 total_test z s i = le_z (total_at z s i) (pos (2 ^ z.b))
 
--- 9 and 10 pass in every row: "D is given only when checks 9 and 10 pass as well"
+-- 9 and 10 pass in every row: what D of request 8 hangs on
 unfoldable pub distance_given : Sizes → List ℕ → Bool
 distance_given z s = all_to (margin_test z s) (command_count z) && all_to (total_test z s) (command_count z)
 
@@ -79,7 +76,7 @@ least_margin z s = least_to (margin_at z s) (command_count z - 1)
 unfoldable pub largest_total : Sizes → List ℕ → ℤ
 largest_total z s = largest_to (total_at z s) (command_count z - 1)
 
--- request 8: "m the least margin of check 9 in counts", never the lent m; the margin itself where 9 passes
+-- request 8: "m the least margin of check 9 in counts"; the margin itself where 9 passes, as it does in every accepted image
 unfoldable pub margin_of : List ℕ → ℕ
 margin_of s = nat_abs (least_margin (sizes_of s) s)
 
@@ -87,22 +84,12 @@ margin_of s = nat_abs (least_margin (sizes_of s) s)
 unfoldable pub momentum_range : Sizes → List ℕ → Bool
 momentum_range z s = le_z (pos 0) (momentum_at z s) && le_z (momentum_at z s) (pos (2 ^ z.b - 1))
 
--- "check 11 uses these m and U": those that are lent; with nothing lent the "least margin of 9" and the "largest total of 10"
-unfoldable pub least_curvature : Sizes → List ℕ → List ℕ → ℤ
-least_curvature z s f = cond (lends f) (bound_of Least f) (least_margin z s)
-
-unfoldable pub largest_curvature : Sizes → List ℕ → List ℕ → ℤ
-largest_curvature z s f = cond (lends f) (bound_of Most f) (largest_total z s)
-
--- not "(2^b + β)² × m below (2^b − β)² × U"
-unfoldable pub ratio_test : Sizes → List ℕ → ℤ → ℤ → Bool
-ratio_test z s m u =
+-- "(2^b + β)² × least margin of 9 below (2^b − β)² × largest total of 10"
+unfoldable pub momentum_ratio : Sizes → List ℕ → Bool
+momentum_ratio z s =
     let f = pos (2 ^ z.b) in
-    let β = momentum_at z s in
-    le_z ((f -ℤ β) *ℤ (f -ℤ β) *ℤ u) ((f +ℤ β) *ℤ (f +ℤ β) *ℤ m)
-
-unfoldable pub momentum_ratio : Sizes → List ℕ → List ℕ → Bool
-momentum_ratio z s f = ratio_test z s (least_curvature z s f) (largest_curvature z s f)
+    let m = momentum_at z s in
+    le_z ((f -ℤ m) *ℤ (f -ℤ m) *ℤ largest_total z s) ((f +ℤ m) *ℤ (f +ℤ m) *ℤ least_margin z s)
 
 -- ---- 12: "P, Y and A + B are at most top"
 unfoldable pub range_test : Sizes → List ℕ → ℕ → Bool
@@ -112,27 +99,25 @@ unfoldable pub row_test : Sizes → List ℕ → ℕ → Bool
 row_test z s i = leb (range_a (problem_at z s) (command_at z s i) + range_b (problem_at z s) (command_at z s i)) (top z.w)
 
 -- ---- in order
--- "nothing lent means checks 9 and 10 as before"; lent factors are tested for 21 "in the place of 9 and 10"
-abbrev pub curvature_checks : Sizes → List ℕ → List ℕ → List Check
-curvature_checks z s f =
-    let n = command_count z in
-    cond (lends f) (check 21 (lent_test z s f) ∷ []) (check 9 (all_to (margin_test z s) n) ∷ check 10 (all_to (total_test z s) n) ∷ [])
-
 -- the tables' own checks, which a sheet is tested by too
-abbrev pub table_checks : Sizes → List ℕ → List ℕ → List Check
-table_checks z s f =
+abbrev pub table_checks : Sizes → List ℕ → List Check
+table_checks z s =
     let n = command_count z in
-    (check 7 (all_to (order_test z s) n) ∷ check 17 (all_to (stop_test z s) n) ∷ check 8 (all_to (symmetry_test z s) n) ∷ [])
-    ++ curvature_checks z s f
-    ++ (check 11 (momentum_range z s) ∷ check 11 (momentum_ratio z s f) ∷ check 12 (all_to (range_test z s) n) ∷ check 12 (all_to (row_test z s) n) ∷ [])
+    check 7 (all_to (order_test z s) n)
+    ∷ check 17 (all_to (stop_test z s) n)
+    ∷ check 8 (all_to (symmetry_test z s) n)
+    ∷ check 9 (all_to (margin_test z s) n)
+    ∷ check 10 (all_to (total_test z s) n)
+    ∷ check 11 (momentum_range z s)
+    ∷ check 11 (momentum_ratio z s)
+    ∷ check 12 (all_to (range_test z s) n)
+    ∷ check 12 (all_to (row_test z s) n)
+    ∷ []
 
--- the number of the first that fails; of 9, 10 and 21 alone
-unfoldable pub tables_number : Sizes → List ℕ → List ℕ → ℕ
-tables_number z s f = first_fault (table_checks z s f)
-
-unfoldable pub curvature_number : Sizes → List ℕ → List ℕ → ℕ
-curvature_number z s f = first_fault (curvature_checks z s f)
+-- the number of the first that fails
+unfoldable pub tables_number : Sizes → List ℕ → ℕ
+tables_number z s = first_fault (table_checks z s)
 
 -- the number of an image: "6, 3, 6, 5, then 7 to" 12, with 17 "after 7 and before 8"
-unfoldable pub image_number : List ℕ → List ℕ → ℕ
-image_number s f = or_else (head_number s) (or_else (body_number (sizes_of s) s) (tables_number (sizes_of s) s f))
+unfoldable pub image_number : List ℕ → ℕ
+image_number s = or_else (head_number s) (or_else (body_number (sizes_of s) s) (tables_number (sizes_of s) s))

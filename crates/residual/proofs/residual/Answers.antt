@@ -141,7 +141,7 @@ loop-i-preserved c =
     let a = (start (d (goal.at.loop-i-preserved c).After-difference-arg-in-loop-i-2-1)).args in
     let f = difference_at a.m.now a.t a.z.now in
     let e : c.difference.result ≡ f (i (d (goal.at.loop-i-preserved c).After-difference-arg-in-loop-i-2-1)) = rw (made (d (goal.at.loop-i-preserved c).After-difference-arg-in-loop-i-2-1), low-back (goal.at.loop-i-preserved c).After-difference-arg-in-loop-i-2-1, high-back (goal.at.loop-i-preserved c).After-difference-arg-in-loop-i-2-1, command-back (goal.at.loop-i-preserved c).After-difference-arg-in-loop-i-2-1) at c.difference.ensures in
-    (omega arith, c.larger-r.ensures ∙ ap (λ (k : ℕ). max k c.difference.result) (d (goal.at.loop-i-preserved c).After-difference-arg-in-loop-i-2-1).before.before.before.before.loop-i.invariant.1 ∙ ap (λ (k : ℕ). max (largest_n f (i (d (goal.at.loop-i-preserved c).After-difference-arg-in-loop-i-2-1))) k) e ∙ sym (largest_n_next f (i (d (goal.at.loop-i-preserved c).After-difference-arg-in-loop-i-2-1))))
+    (omega arith, c.larger-r.ensures ∙ ap (λ (k : ℕ). max k c.difference.result) c.loop-i.invariant.1 ∙ ap (λ (k : ℕ). max (largest_n f (i (d (goal.at.loop-i-preserved c).After-difference-arg-in-loop-i-2-1))) k) e ∙ sym (largest_n_next f (i (d (goal.at.loop-i-preserved c).After-difference-arg-in-loop-i-2-1))))
 
 pub returns : goal.returns
 returns c =
