@@ -25,7 +25,7 @@ pub fn power(b: u32) -> i64
 }
 
 // Entry j of row i of H.
-fn cost_at(image: &[u8], z: Sizes, i: usize, j: usize) -> i64
+pub fn cost_at(image: &[u8], z: Sizes, i: usize, j: usize) -> i64
     requires { Whole z image.now × ((i < command_count z) × (j < command_count z)) }
     ensures { (result ≡ cost_at z image.now i j) × (nat_abs result ≤ 2 ^ 31) }
 {

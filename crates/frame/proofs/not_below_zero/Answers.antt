@@ -7,12 +7,10 @@ use Rattle.frame.proofs.not_below_zero.Goals as goal
 
 pub returns-then-v-lt0 : goal.returns-then-v-lt0
 returns-then-v-lt0 c =
-    let k = c.c in
-    let e : to_z w64 (of_z w64 k.given.0.0) ≡ k.given.0.0 = search rules in
-    below k.given.0.0 _ k.given.1 (rw e at c.if-v-lt0.true)
+    let e : to_z w64 (of_z w64 c.in-Word.v) ≡ c.in-Word.v = search rules in
+    below c.in-Word.v _ c.in-Word.is (rw e at c.if-v-lt0.true)
 
 pub returns-else-v-lt0 : goal.returns-else-v-lt0
 returns-else-v-lt0 c =
-    let k = c.c in
-    let e : to_z w64 (of_z w64 k.given.0.0) ≡ k.given.0.0 = search rules in
-    not_below k.given.0.0 _ k.given.1 (rw e at c.if-v-lt0.false)
+    let e : to_z w64 (of_z w64 c.in-Word.v) ≡ c.in-Word.v = search rules in
+    not_below c.in-Word.v _ c.in-Word.is (rw e at c.if-v-lt0.false)

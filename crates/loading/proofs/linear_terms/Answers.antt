@@ -59,7 +59,7 @@ loop-i-preserved c =
     let s = (a (goal.at.loop-i-preserved c).In-loop-i).args in
     let q = c.floor_div in
     let x = get_or (g (goal.at.loop-i-preserved c).In-loop-i).exact_terms-g.result (i (goal.at.loop-i-preserved c).In-loop-i) (pos 0) in
-    let made = (rw (back x c.floor-div-arg.given) at q.ensures) ∙ ap (λ (h : ℤ). floor h (2 ^ s.z.b)) ((g (goal.at.loop-i-preserved c).In-loop-i).exact_terms-g.ensures.each (i (goal.at.loop-i-preserved c).In-loop-i) l.loop-i-test.true) in
+    let made = (rw (back x c.floor_div-arg-1.given) at q.ensures) ∙ ap (λ (h : ℤ). floor h (2 ^ s.z.b)) ((g (goal.at.loop-i-preserved c).In-loop-i).exact_terms-g.ensures.each (i (goal.at.loop-i-preserved c).In-loop-i) l.loop-i-test.true) in
     more (pos 0) (λ k h. h ≡ linear_at s.z s.image.now s.state.now s.target.now k) _ (a (goal.at.loop-i-preserved c).In-loop-i).requires.whole.sizes.n_high l.loop-i-test.true l.loop-i.invariant
     (back q.result q.type_inv ∙ made ∙ linear_divided s.z s.image.now s.state.now s.target.now (i (goal.at.loop-i-preserved c).In-loop-i))
 

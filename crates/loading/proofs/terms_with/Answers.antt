@@ -4,7 +4,7 @@ use Rattle.loading.proofs.terms_with.Goals as goal
 
 pub returns : goal.returns
 returns c =
-    let l = c.Limits-of.ensures in
+    let l = c.limits_of-l.ensures in
     record {
       lowers = l.lowers;
       uppers = l.uppers;

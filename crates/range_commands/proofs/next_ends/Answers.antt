@@ -190,11 +190,11 @@ loop-i-preserved c =
     let counted : command_of g.u (i (l (goal.at.loop-i-preserved c).After-row_ends-x)) (sum_z terms 0 g.t.n) ≡ command_of g.u (i (l (goal.at.loop-i-preserved c).After-row_ends-x)) (sum_z terms 0 g.u.n) = ap (λ (n : ℕ). command_of g.u (i (l (goal.at.loop-i-preserved c).After-row_ends-x)) (sum_z terms 0 n)) (sym n) in (
       more (pos 0) (λ k x. x ≡ z_end end.low g.m.now g.t g.below.now g.above.now k) _ few t inv.0
           (back k.command.result k.command.type_inv
-          ∙ (rw (back (get_or g.t.lower (i (l (goal.at.loop-i-preserved c).After-row_ends-x)) (pos 0)) k.command-arg2.given, back (get_or g.t.upper (i (l (goal.at.loop-i-preserved c).After-row_ends-x)) (pos 0)) k.command-arg3.given, h-back (l (goal.at.loop-i-preserved c).After-row_ends-x) g.t f refl) at k.command.ensures)
+          ∙ (rw (back (get_or g.t.lower (i (l (goal.at.loop-i-preserved c).After-row_ends-x)) (pos 0)) k.command-arg-in-loop-i-1.given, back (get_or g.t.upper (i (l (goal.at.loop-i-preserved c).After-row_ends-x)) (pos 0)) k.command-arg-in-loop-i-2-1.given, h-back (l (goal.at.loop-i-preserved c).After-row_ends-x) g.t f refl) at k.command.ensures)
           ∙ ap (command_of g.t (i (l (goal.at.loop-i-preserved c).After-row_ends-x))) (low_sum (goal.at.loop-i-preserved c).After-row_ends-x)),
       more (pos 0) (λ k x. x ≡ z_end end.high g.m.now g.u g.below.now g.above.now k) _ few t inv.1
           (back c.command-in-loop-i.result c.command-in-loop-i.type_inv
-          ∙ (rw (back (get_or g.u.lower (i (l (goal.at.loop-i-preserved c).After-row_ends-x)) (pos 0)) c.command-arg5.given, back (get_or g.u.upper (i (l (goal.at.loop-i-preserved c).After-row_ends-x)) (pos 0)) c.command-arg6.given, h-back (l (goal.at.loop-i-preserved c).After-row_ends-x) g.u (s (goal.at.loop-i-preserved c).After-row_ends-x).requires.0.high_terms n) at c.command-in-loop-i.ensures)
+          ∙ (rw (back (get_or g.u.lower (i (l (goal.at.loop-i-preserved c).After-row_ends-x)) (pos 0)) c.command-arg-in-loop-i-4-1.given, back (get_or g.u.upper (i (l (goal.at.loop-i-preserved c).After-row_ends-x)) (pos 0)) c.command-arg-in-loop-i-5-1.given, h-back (l (goal.at.loop-i-preserved c).After-row_ends-x) g.u (s (goal.at.loop-i-preserved c).After-row_ends-x).requires.0.high_terms n) at c.command-in-loop-i.ensures)
           ∙ ap (command_of g.u (i (l (goal.at.loop-i-preserved c).After-row_ends-x))) (high_sum (goal.at.loop-i-preserved c).After-row_ends-x) ∙ counted),
     )
 

@@ -6,11 +6,8 @@ use Rattle.array.proofs.Filling.{Filling, none, more, full}
 use Rattle.gradient.specs.Bounds.{range_y}
 use Rattle.image.specs.declared.Sizes.{Sizes}
 use Rattle.image.specs.Layout.{command_at, problem_at}
-use Rattle.row_sums.proofs.ranges_y.Invariants.{Is}
+use Rattle.row_sums.proofs.ranges_y.Invariants.{range, Is}
 use Rattle.row_sums.proofs.ranges_y.Goals as goal
-
-abbrev range : Sizes → List ℕ → ℕ → ℕ
-range z s k = range_y (problem_at z s) (command_at z s k)
 
 pub overflow_mul-n : goal.overflow_mul-n
 overflow_mul-n c = omega arith

@@ -8,6 +8,9 @@ use Rattle.image.specs.declared.Sizes.{Sizes}
 use Rattle.image.specs.Layout.{command_at, problem_at}
 use Rattle.row_sums.proofs.ranges_y.Given as goal
 
+abbrev pub range : Sizes → List ℕ → ℕ → ℕ
+range z s k = range_y (problem_at z s) (command_at z s k)
+
 abbrev pub Is : Sizes → List ℕ → ℕ → ℕ → Type 0
 Is z s k x = x ≡ range z s k
 

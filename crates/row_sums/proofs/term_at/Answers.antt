@@ -25,10 +25,10 @@ abbrev Ready : Term → Start → Type 0
 Ready t a = TermsReady t a.args.z a.args.image.now a.args.row.now a.args.y.now a.args.i × (a.args.j < term_count t a.args.z)
 
 range-ready : (c : In-Range) → Ready Range c.before.before.before.before
-range-ready c = rw c.enum_told.given.1 at c.requires
+range-ready c = rw c.in-Range.is at c.requires
 
-gain-ready : (c : In-GainRange) → Ready (GainRange c.t.given.0.0) c.before.before.before.before.before
-gain-ready c = rw c.t.given.1 at c.requires
+gain-ready : (c : In-GainRange) → Ready (GainRange c.in-GainRange.v) c.before.before.before.before
+gain-ready c = rw c.in-GainRange.is at c.requires
 
 pub entry-requires : goal.entry-requires
 entry-requires c = (omega arith, long (goal.at.entry-requires c).Start)
@@ -98,7 +98,7 @@ returns-in-GainRange c =
     let a = d.args in
     let w = c.word_at in
     let b = c.limit_at in
-    let e : w.result ≡ gain_at d.t.given.0.0 a.z a.image.now a.i a.j = w.ensures.0 ∙ ap (λ (l : List ℕ). word_at l (4 * a.j)) (gain-ready (goal.at.returns-in-GainRange c).In-GainRange).0.part in
+    let e : w.result ≡ gain_at d.in-GainRange.v a.z a.image.now a.i a.j = w.ensures.0 ∙ ap (λ (l : List ℕ). word_at l (4 * a.j)) (gain-ready (goal.at.returns-in-GainRange c).In-GainRange).0.part in
     let q = rw (back w.result w.type_inv) at c.scaled-in-GainRange.ensures.0 in
     let m = rw (back b.result b.type_inv) at c.size-limit.ensures.0 in
-    rw d.t.given.1 (cc (q, e, m, b.ensures.0), c.scaled-in-GainRange.ensures.1)
+    rw d.in-GainRange.is (cc (q, e, m, b.ensures.0), c.scaled-in-GainRange.ensures.1)
