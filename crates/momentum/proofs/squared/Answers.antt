@@ -1,4 +1,3 @@
--- `momentum::squared` meets its contract. Assumes nothing.
 use native.Mathlib.Omega.{arith}
 use native.Mathlib.Nat.{mul-le-mul}
 use mathlib.Core.Path.{refl}
@@ -9,10 +8,10 @@ use mir.Val.{SFits}
 use mir.Facts.{to_z-of_z}
 use Rattle.integer.proofs.Laws.{abs_mul}
 use Rattle.integer.proofs.Machine.{sfits_mul}
-use Rattle.momentum.proofs.squared.Statement.{statement}
-use Rattle.momentum.proofs.squared.Tie as tie
+use Rattle.momentum.proofs.squared.Goals.{Start}
+use Rattle.momentum.proofs.squared.Goals as goal
 
-module _ (c : tie.Start) where
+module _ (c : Start) where
   abbrev a : ℤ
   a = c.args.a
 
@@ -22,14 +21,11 @@ module _ (c : tie.Start) where
   twice : SFits w64 (a *ℤ a *ℤ c.args.c)
   twice = sfits_mul (a *ℤ a) c.args.c (2 ^ 42) (2 ^ 20) (rw (abs_mul a a) (mul-le-mul {n₂ = 2 ^ 21} {m₂ = 2 ^ 21} c.requires.0 c.requires.0)) c.requires.1 (omega arith)
 
-mul-result : tie.Need-overflow-mul-result
-mul-result c = rw (to_z-of_z c.ranges.a) (once c)
+pub overflow_mul-result : goal.overflow_mul-result
+overflow_mul-result c = rw (to_z-of_z c.ranges.a) (once c)
 
-mul-result-2 : tie.Need-overflow-mul-result-2
-mul-result-2 c = rw (to_z-of_z c.ranges.a, to_z-of_z (once c), to_z-of_z c.ranges.c) (twice c)
+pub overflow_mul-result-2 : goal.overflow_mul-result-2
+overflow_mul-result-2 c = rw (to_z-of_z c.ranges.a, to_z-of_z (once c), to_z-of_z c.ranges.c) (twice c)
 
-returns : tie.Need-returns
+pub returns : goal.returns
 returns c = rw (to_z-of_z c.ranges.a, to_z-of_z (once c), to_z-of_z c.ranges.c, to_z-of_z (twice c)) refl
-
-pub squared-spec : {M : Type 1} → statement M
-squared-spec = tie.close (tie.spec mul-result mul-result-2 returns)

@@ -1,0 +1,159 @@
+use native.Mathlib.Omega.{arith}
+use mathlib.Core.Path.{◌≡◌, refl, sym, ap, subst, ◌∙◌}
+use mathlib.Core.List.{List}
+use Prim.Native.Nat.{ℕ, ◌+◌, ◌-◌, ◌^◌, ◌≤◌, ◌<◌}
+use lib.IntN.{ℤ, pos, nat_abs, ◌+ℤ◌}
+use mir.Syntax.{w64}
+use mir.Val.{to_z, of_z, SFits}
+use mir.Facts.{to_z-of_z}
+use Rattle.integer.specs.Round.{floor}
+use Rattle.integer.proofs.Machine.{back, fit_abs}
+use Rattle.gradient.specs.Index.{sum_z}
+use Rattle.image.specs.declared.Input.TheVariants.{Target}
+use Rattle.image.specs.Sizes.{command_count}
+use Rattle.image.specs.Layout.{gain_row}
+use Rattle.array.proofs.Filling.{Filling, none, more, full}
+use Rattle.dot.specs.Sums.{input_term}
+use Rattle.ranges.specs.Interval as end
+use Rattle.range_sums.specs.Ends.{Ranged}
+use Rattle.range_loading.specs.Tables.{gain_term, linear_end}
+use Rattle.range_loading.proofs.Tables.{LowsHeld, HighsHeld, behind_lows, held_ranged, state_small, target_small, whole_small, linear_is}
+use borrow.Author.Rules.{rules}
+use Rattle.range_loading.proofs.linear_ends.Goals.{After-gain_sum-g, In-loop-i, Start}
+use Rattle.range_loading.proofs.linear_ends.Goals as goal
+
+-- what a turn goes by: the arrays of the lows, of the highs and of the target
+module _ (l : In-loop-i) where
+  abbrev a : Start
+  a = (goal.at.In-loop-i l).Start
+
+  abbrev i : ℕ
+  i = l.loop-i.i
+
+  abbrev lows : List ℤ
+  lows = l.words_of-lows.result
+
+  abbrev highs : List ℤ
+  highs = l.words_of-highs.result
+
+  abbrev goal : List ℤ
+  goal = l.words_of-goal.result
+
+  lows-held : LowsHeld a.args.z a.args.ranges.now lows
+  lows-held = l.words_of-lows.ensures.0
+
+  highs-held : HighsHeld a.args.z a.args.ranges.now highs
+  highs-held = behind_lows a.args.z a.args.ranges.now _ refl l.words_of-highs.ensures.0
+
+  values : Ranged lows highs a.args.z.nx
+  values = held_ranged a.args.z a.args.ranges.now lows-held highs-held a.requires.values
+
+  -- an end's sum of the row, with the target's behind it
+  abbrev sum : end.End → ℤ
+  sum e = sum_z (gain_term e a.args.z a.args.image.now lows highs i) 0 a.args.z.nx
+
+  abbrev whole : end.End → ℤ
+  whole e = sum e +ℤ sum_z (input_term (gain_row Target a.args.z a.args.image.now i) goal) 0 a.args.z.nr
+
+  sum-small : (e : end.End) (b k : ℕ) → b + k ≤ a.args.z.nx → nat_abs (sum_z (gain_term e a.args.z a.args.image.now lows highs i) b k) < 2 ^ 51
+  sum-small e = state_small e a.args.z a.args.image.now a.args.ranges.now a.args.target.now i lows highs goal lows-held highs-held l.words_of-goal.ensures.0 (a.requires.sums i l.loop-i-test.true e)
+
+  fits : (e : end.End) → SFits w64 (whole e)
+  fits e = fit_abs (whole e) (omega (arith, whole_small e a.args.z a.args.image.now a.args.ranges.now a.args.target.now i lows highs goal lows-held highs-held l.words_of-goal.ensures.0 (a.requires.sums i l.loop-i-test.true e)))
+
+  divided : (e : end.End) → floor (whole e) (2 ^ a.args.z.b) ≡ linear_end e a.args.z a.args.image.now a.args.ranges.now a.args.target.now i
+  divided e = linear_is e a.args.z a.args.image.now a.args.ranges.now a.args.target.now i lows highs goal lows-held highs-held l.words_of-goal.ensures.0 (a.requires.sums i l.loop-i-test.true e)
+
+-- a turn's sums, as they are read back
+pair : {x s u v : ℤ} → x ≡ s → nat_abs s < 2 ^ 63 → u ≡ v → to_z w64 (of_z w64 x) +ℤ u ≡ s +ℤ v
+pair {x} {s} {u} {v} p h q = ap (λ (z : ℤ). to_z w64 (of_z w64 z) +ℤ u) p ∙ ap (λ (z : ℤ). z +ℤ u) (to_z-of_z (fit_abs s h)) ∙ ap (λ (z : ℤ). s +ℤ z) q
+
+module _ (c : After-gain_sum-g) where
+  abbrev l : In-loop-i
+  l = (goal.at.After-gain_sum-g c).In-loop-i
+
+  read : {x : ℤ} (e : end.End) → x ≡ sum l e → to_z w64 (of_z w64 x) +ℤ to_z w64 (of_z w64 c.gain_sum-g.result) ≡ whole l e
+  read e q = pair q (omega (arith, sum-small l e 0 (a l).args.z.nx (omega arith))) (back c.gain_sum-g.result c.gain_sum-g.type_inv ∙ c.gain_sum-g.ensures)
+
+  low_read : to_z w64 (of_z w64 c.gain_ends-x.result.low) +ℤ to_z w64 (of_z w64 c.gain_sum-g.result) ≡ whole l end.low
+  low_read = read end.low c.gain_ends-x.ensures.low_sum
+
+  high_read : to_z w64 (of_z w64 c.gain_ends-x.result.high) +ℤ to_z w64 (of_z w64 c.gain_sum-g.result) ≡ whole l end.high
+  high_read = read end.high c.gain_ends-x.ensures.high_sum
+
+pub blank-low-requires : goal.blank-low-requires
+blank-low-requires c = tt
+
+pub blank-high-requires : goal.blank-high-requires
+blank-high-requires c = tt
+
+pub loop-i-init : goal.loop-i-init
+loop-i-init c =
+    let g = c.args in
+    let n = command_count g.z in (
+      none (pos 0) (λ k h. h ≡ linear_end end.low g.z g.image.now g.ranges.now g.target.now k) n c.blank-low.result c.blank-low.ensures,
+      none (pos 0) (λ k h. h ≡ linear_end end.high g.z g.image.now g.ranges.now g.target.now k) n c.blank-high.result c.blank-high.ensures,
+    )
+
+pub gain_ends-x-requires : goal.gain_ends-x-requires
+gain_ends-x-requires c =
+    let l = c in
+    record { whole = (a (goal.at.gain_ends-x-requires c).In-loop-i).requires.whole; below = l.loop-i-test.true; values = values (goal.at.gain_ends-x-requires c).In-loop-i; sums = sum-small (goal.at.gain_ends-x-requires c).In-loop-i }
+
+pub gain_sum-g-requires : goal.gain_sum-g-requires
+gain_sum-g-requires c =
+    let l = c in
+    let s = a (goal.at.gain_sum-g-requires c).In-loop-i in
+    ((s.requires.whole, l.loop-i-test.true), (l.words_of-goal.ensures.1, λ b k h. omega (arith, target_small end.low s.args.z s.args.image.now s.args.ranges.now s.args.target.now (i (goal.at.gain_sum-g-requires c).In-loop-i) (lows (goal.at.gain_sum-g-requires c).In-loop-i) (highs (goal.at.gain_sum-g-requires c).In-loop-i) (goal (goal.at.gain_sum-g-requires c).In-loop-i) (lows-held (goal.at.gain_sum-g-requires c).In-loop-i) (highs-held (goal.at.gain_sum-g-requires c).In-loop-i) l.words_of-goal.ensures.0 (s.requires.sums (i (goal.at.gain_sum-g-requires c).In-loop-i) l.loop-i-test.true end.low) b k h)))
+
+pub overflow_add-x : goal.overflow_add-x
+overflow_add-x c = let d = c in subst (SFits w64) (sym (low_read (goal.at.overflow_add-x c).After-gain_sum-g)) (fits (l (goal.at.overflow_add-x c).After-gain_sum-g) end.low)
+
+pub floor_div-requires : goal.floor_div-requires
+floor_div-requires c = omega (arith, (a (l (goal.at.floor_div-requires c).After-gain_sum-g)).requires.whole.sizes.b_high)
+
+pub offset_bounds-low-i : goal.offset_bounds-low-i
+offset_bounds-low-i c = omega (arith, (a (l (goal.at.offset_bounds-low-i c).After-gain_sum-g)).requires.whole.sizes.n_high, (l (goal.at.offset_bounds-low-i c).After-gain_sum-g).loop-i-test.true)
+
+pub bounds-low-i : goal.bounds-low-i
+bounds-low-i c = omega (arith, (a (l (goal.at.bounds-low-i c).After-gain_sum-g)).requires.whole.sizes.n_high, (l (goal.at.bounds-low-i c).After-gain_sum-g).loop-i-test.true)
+
+pub overflow_add-x-in-loop-i : goal.overflow_add-x-in-loop-i
+overflow_add-x-in-loop-i c = let d = c in subst (SFits w64) (sym (high_read (goal.at.overflow_add-x-in-loop-i c).After-gain_sum-g)) (fits (l (goal.at.overflow_add-x-in-loop-i c).After-gain_sum-g) end.high)
+
+pub floor_div-requires-in-loop-i : goal.floor_div-requires-in-loop-i
+floor_div-requires-in-loop-i c = omega (arith, (a (l (goal.at.floor_div-requires-in-loop-i c).After-gain_sum-g)).requires.whole.sizes.b_high)
+
+pub offset_bounds-high-i : goal.offset_bounds-high-i
+offset_bounds-high-i c = let d = c in omega (arith, (a (l (goal.at.offset_bounds-high-i c).After-gain_sum-g)).requires.whole.sizes.n_high, (l (goal.at.offset_bounds-high-i c).After-gain_sum-g).loop-i-test.true)
+
+pub bounds-high-i : goal.bounds-high-i
+bounds-high-i c = let d = c in omega (arith, (a (l (goal.at.bounds-high-i c).After-gain_sum-g)).requires.whole.sizes.n_high, (l (goal.at.bounds-high-i c).After-gain_sum-g).loop-i-test.true)
+
+pub overflow_add-i : goal.overflow_add-i
+overflow_add-i c = let d = c in omega (arith, (a (l (goal.at.overflow_add-i c).After-gain_sum-g)).requires.whole.sizes.n_high, (l (goal.at.overflow_add-i c).After-gain_sum-g).loop-i-test.true)
+
+pub loop-i-smaller : goal.loop-i-smaller
+loop-i-smaller c = let d = c in omega (arith, (l (goal.at.loop-i-smaller c).After-gain_sum-g).loop-i-test.true)
+
+pub loop-i-preserved : goal.loop-i-preserved
+loop-i-preserved c =
+    let q = c in
+    let d = c in
+    let g = (a (l (goal.at.loop-i-preserved c).After-gain_sum-g)).args in
+    let few = (a (l (goal.at.loop-i-preserved c).After-gain_sum-g)).requires.whole.sizes.n_high in
+    let t = (l (goal.at.loop-i-preserved c).After-gain_sum-g).loop-i-test.true in
+    let inv = (l (goal.at.loop-i-preserved c).After-gain_sum-g).before.loop-i.invariant in (
+      more (pos 0) (λ k h. h ≡ linear_end end.low g.z g.image.now g.ranges.now g.target.now k) _ few t inv.0
+          (back q.floor_div.result q.floor_div.type_inv ∙ (rw (low_read (goal.at.loop-i-preserved c).After-gain_sum-g, to_z-of_z (fits (l (goal.at.loop-i-preserved c).After-gain_sum-g) end.low)) at q.floor_div.ensures) ∙ divided (l (goal.at.loop-i-preserved c).After-gain_sum-g) end.low),
+      more (pos 0) (λ k h. h ≡ linear_end end.high g.z g.image.now g.ranges.now g.target.now k) _ few t inv.1
+          (back c.floor_div-in-loop-i.result c.floor_div-in-loop-i.type_inv ∙ (rw (high_read (goal.at.loop-i-preserved c).After-gain_sum-g, to_z-of_z (fits (l (goal.at.loop-i-preserved c).After-gain_sum-g) end.high)) at c.floor_div-in-loop-i.ensures) ∙ divided (l (goal.at.loop-i-preserved c).After-gain_sum-g) end.high),
+    )
+
+pub returns : goal.returns
+returns c =
+    let g = c.args in
+    record {
+      lowest = full (pos 0) (linear_end end.low g.z g.image.now g.ranges.now g.target.now) c.loop-i-test.false c.loop-i.invariant.0;
+      highest = full (pos 0) (linear_end end.high g.z g.image.now g.ranges.now g.target.now) c.loop-i-test.false c.loop-i.invariant.1;
+    }
