@@ -4,7 +4,7 @@
 
 ghost use Rattle.std.specs.Prelude.{◌≡◌, length};
 
-use libc::STDOUT_FILENO;
+use std::io;
 
 // Room for the largest page, 561 lines of 44 bytes.
 fn page_room() -> [u8; 24684]
@@ -13,10 +13,10 @@ fn page_room() -> [u8; 24684]
     [0; 24684]
 }
 
-fn main() {
+fn main(rt: HostRuntime) -> io::Result<()> {
     let mut drive = file::drive_room();
-    let drive_size = file::read_file(b"drive.hex", &mut drive);
+    let drive_size = file::read_file(&rt, b"drive.hex", &mut drive);
     let mut text = page_room();
     let n = page_text::page(&drive[..drive_size], &mut text);
-    io::write_all(STDOUT_FILENO, &text[..n]);
+    rt.write_all(&text[..n])
 }

@@ -1,5 +1,4 @@
 use mathlib.Core.Path.{refl}
-use borrow.Author.Rules.{rules}
 use Rattle.integer.specs.Round.{ceil}
 use Rattle.integer.proofs.ceil_by.Goals as goal
 

@@ -19,7 +19,7 @@ use Rattle.image.specs.Sizes.{command_count}
 use Rattle.frame.specs.Frame.{is_high}
 use Rattle.lines.specs.Lines.{line_fault, line_value, line_word}
 use Rattle.lines.proofs.Step.{OfCommand, fault_none, fault_refused, fault_word, of_command, pair_fault, pair_words, step_low, step_pair, step_word, value_fault_lem, value_is}
-use Rattle.lines.proofs.take_line.Goals.{After-command_of, After-command_of-then-d-eq4, After-due_at-d, In-Double, In-Word, Start, Then-d-eq4, Then-d-eq5}
+use Rattle.lines.proofs.take_line.Goals.{After-command_of, After-command_of-then-d-eq4-unread, After-due_at-d, In-Double, In-Word, Start, Then-d-eq4, Then-d-eq5}
 use Rattle.lines.proofs.take_line.Goals as goal
 
 -- the place is in the tables
@@ -142,10 +142,9 @@ returns-in-Pair c s q r =
     let k = c in
     let t = c in
     let u = su (goal.at.returns-in-Pair c).Then-d-eq5 in
-    let low = c.low2 in
-    let ea : to_z w64 (of_z w64 low.given.0.0) ≡ low.given.0.0 = search rules in
-    let eb : to_z w64 (of_z w64 low.given.0.1.0) ≡ low.given.0.1.0 = search rules in
-    let p = pair_words u.args.z s u.args.i u.args.words.now u.args.lows.now u.requires.0 r (k5 (goal.at.returns-in-Pair c).Then-d-eq5) (x (goal.at.returns-in-Pair c).In-Double) (value (goal.at.returns-in-Pair c).In-Double s q) k.command_of.result (command-is (goal.at.returns-in-Pair c).After-command_of) low.given.0.0 low.given.0.1.0 (sym low.given.1 ∙ c.inward.ensures.0) in
+    let ea : to_z w64 (of_z w64 c.in-Pair.low) ≡ c.in-Pair.low = search rules in
+    let eb : to_z w64 (of_z w64 c.in-Pair.high) ≡ c.in-Pair.high = search rules in
+    let p = pair_words u.args.z s u.args.i u.args.words.now u.args.lows.now u.requires.0 r (k5 (goal.at.returns-in-Pair c).Then-d-eq5) (x (goal.at.returns-in-Pair c).In-Double) (value (goal.at.returns-in-Pair c).In-Double s q) k.command_of.result (command-is (goal.at.returns-in-Pair c).After-command_of) c.in-Pair.low c.in-Pair.high (sym c.in-Pair.is ∙ c.inward.ensures.0) in
     (sym p.2, λ n. step_pair u.args.z s u.args.i u.args.words.now u.args.lows.now u.requires.0 u.requires.1 r p.2 _ _ (p.0 ∙ sym ea) (p.1 ∙ sym eb) (k5 (goal.at.returns-in-Pair c).Then-d-eq5))
 
 pub returns-in-NoPair : goal.returns-in-NoPair
@@ -160,21 +159,21 @@ pub command_of-requires-then-d-eq4 : goal.command_of-requires-then-d-eq4
 command_of-requires-then-d-eq4 c = ((sl c).requires.0, (of_low c).0, (of_low c).1)
 
 -- the low that is kept now
-module _ (c : After-command_of-then-d-eq4) where
+module _ (c : After-command_of-then-d-eq4-unread) where
   abbrev ul : Start
-  ul = sl (goal.at.After-command_of-then-d-eq4 c).Then-d-eq4
+  ul = sl (goal.at.After-command_of-then-d-eq4-unread c).Then-d-eq4
 
   low-command : c.command_of-then-d-eq4.result ≡ ul.args.i - low_base ul.args.z
-  low-command = c.command_of-then-d-eq4.ensures ∙ (of_low (goal.at.After-command_of-then-d-eq4 c).Then-d-eq4).2
+  low-command = c.command_of-then-d-eq4.ensures ∙ (of_low (goal.at.After-command_of-then-d-eq4-unread c).Then-d-eq4).2
 
   low_small : c.command_of-then-d-eq4.result < 16
-  low_small = omega (arith, low-command, low_of ul.args.z ul.args.i (k4 (goal.at.After-command_of-then-d-eq4 c).Then-d-eq4), ul.requires.0.n_high)
+  low_small = omega (arith, low-command, low_of ul.args.z ul.args.i (k4 (goal.at.After-command_of-then-d-eq4-unread c).Then-d-eq4), ul.requires.0.n_high)
 
 pub offset_bounds-lows-command_of-then-d-eq4 : goal.offset_bounds-lows-command_of-then-d-eq4
-offset_bounds-lows-command_of-then-d-eq4 c = omega (arith, low_small (goal.at.offset_bounds-lows-command_of-then-d-eq4 c).After-command_of-then-d-eq4)
+offset_bounds-lows-command_of-then-d-eq4 c = omega (arith, low_small c-unread)
 
 pub bounds-lows-command_of-then-d-eq4 : goal.bounds-lows-command_of-then-d-eq4
-bounds-lows-command_of-then-d-eq4 c = low_small (goal.at.bounds-lows-command_of-then-d-eq4 c).After-command_of-then-d-eq4
+bounds-lows-command_of-then-d-eq4 c = low_small c
 
 pub overflow_add-v : goal.overflow_add-v
 overflow_add-v c = omega (arith, small (goal.at.overflow_add-v c).After-due_at-d)

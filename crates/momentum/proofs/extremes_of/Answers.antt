@@ -26,7 +26,7 @@ module _ (c : After-greater-largest) where
       let r = c.lesser-least in
       let m = row.disc_of-row in
       back r.result r.type_inv
-      ∙ (rw (back m.result.margin c.struct-told3.given.0.1, m.ensures.0, q.loop-i.invariant.1.1.0) at r.ensures)
+      ∙ (rw (back m.result.margin c.struct_told-in-loop-i-1.given.0.1, m.ensures.0, q.loop-i.invariant.1.1.0) at r.ensures)
       ∙ sym (least_next (margin_at a.args.z a.args.image.now) q.loop-i.i q.loop-i.invariant.0)
 
   largest : to_z w64 (of_z w64 c.greater-largest.result) ≡ largest_to (total_at a.args.z a.args.image.now) (q.loop-i.i + 1 - 1)
@@ -34,7 +34,7 @@ module _ (c : After-greater-largest) where
       let r = c.greater-largest in
       let t = row.disc_of-row in
       back r.result r.type_inv
-      ∙ (rw (back t.result.total c.struct-told4.given.1.0.1, t.ensures.1, q.loop-i.invariant.1.1.1) at r.ensures)
+      ∙ (rw (back t.result.total c.struct_told-in-loop-i-2-1.given.1.0.1, t.ensures.1, q.loop-i.invariant.1.1.1) at r.ensures)
       ∙ sym (largest_next (total_at a.args.z a.args.image.now) q.loop-i.i q.loop-i.invariant.0)
 
 pub overflow_mul-n : goal.overflow_mul-n
@@ -46,7 +46,7 @@ disc_of-first-requires c = (c.requires, c.requires.sizes.n_low)
 pub loop-i-init : goal.loop-i-init
 loop-i-init c =
     let r = c.disc_of-first in
-    let f = c.struct_told.given in
+    let f = c.struct_told-1.given in
     (omega arith, (omega (arith, c.requires.sizes.n_low), (back r.result.margin f.0.1 ∙ r.ensures.0, back r.result.total f.1.0.1 ∙ r.ensures.1)))
 
 pub disc_of-row-requires : goal.disc_of-row-requires

@@ -24,15 +24,13 @@ put_fields-requires-in-Moved c =
 pub returns-in-Kept : goal.returns-in-Kept
 returns-in-Kept c =
     let a = c.args in
-    let m = c.e.given in
-    let x = m.0.0 in
+    let x = c.in-Kept.x in
     let p = c.plus_for_minus in
     let w : c.put_fields.new.out ≡ put_at a.out.now a.at (fields_text x p.result 75) = c.put_fields.ensures in
-    w ∙ ap (λ (k : Float). put_at a.out.now a.at (fields_text x k 75)) p.ensures ∙ ap (λ (u : Effect). put_at a.out.now a.at (effect_text u)) (sym m.1)
+    w ∙ ap (λ (k : Float). put_at a.out.now a.at (fields_text x k 75)) p.ensures ∙ ap (λ (u : Effect). put_at a.out.now a.at (effect_text u)) (sym c.in-Kept.is)
 
 pub returns-in-Moved : goal.returns-in-Moved
 returns-in-Moved c =
     let a = c.args in
-    let m = c.e2.given in
-    let w : c.put_fields-in-Moved.new.out ≡ put_at a.out.now a.at (fields_text m.0.0 m.0.1.0 77) = c.put_fields-in-Moved.ensures in
-    w ∙ ap (λ (u : Effect). put_at a.out.now a.at (effect_text u)) (sym m.1)
+    let w : c.put_fields-in-Moved.new.out ≡ put_at a.out.now a.at (fields_text c.in-Moved.x c.in-Moved.y 77) = c.put_fields-in-Moved.ensures in
+    w ∙ ap (λ (u : Effect). put_at a.out.now a.at (effect_text u)) (sym c.in-Moved.is)

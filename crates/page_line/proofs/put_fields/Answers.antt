@@ -27,9 +27,9 @@ returns c =
     let a = c in
     let at = a.args.at in
     let first = c.put_hex in
-    let g : first.new.0 ≡ put_at a.args.out.now at (hex_digits 16 (to_bits binary64 a.args.given)) = first.ensures in
+    let g : first.new.out ≡ put_at a.args.out.now at (hex_digits 16 (to_bits binary64 a.args.given)) = first.ensures in
     let second = c.put_hex-2 in
-    let k : second.new.0 ≡ put_at (set first.new.0 (at + 16) 32) (at + 17) (hex_digits 16 (to_bits binary64 a.args.kept)) = second.ensures in
+    let k : second.new.out ≡ put_at (set first.new.out (at + 16) 32) (at + 17) (hex_digits 16 (to_bits binary64 a.args.kept)) = second.ensures in
     ap (λ (o : List ℕ). set (set o (at + 33) 32) (at + 34) a.args.mark)
     (k ∙ ap (λ (o : List ℕ). put_at (set o (at + 16) 32) (at + 17) (hex_digits 16 (to_bits binary64 a.args.kept))) g)
     ∙ written.put_fields_lem a.args.given a.args.kept a.args.mark a.args.out.now at a.requires.0

@@ -36,8 +36,8 @@ module _ (l : In-loop-i) where
   abbrev highs : List ℤ
   highs = l.words_of-highs.result
 
-  abbrev goal : List ℤ
-  goal = l.words_of-goal.result
+  abbrev toward : List ℤ
+  toward = l.words_of-goal.result
 
   lows-held : LowsHeld a.args.z a.args.ranges.now lows
   lows-held = l.words_of-lows.ensures.0
@@ -53,16 +53,16 @@ module _ (l : In-loop-i) where
   sum e = sum_z (gain_term e a.args.z a.args.image.now lows highs i) 0 a.args.z.nx
 
   abbrev whole : end.End → ℤ
-  whole e = sum e +ℤ sum_z (input_term (gain_row Target a.args.z a.args.image.now i) goal) 0 a.args.z.nr
+  whole e = sum e +ℤ sum_z (input_term (gain_row Target a.args.z a.args.image.now i) toward) 0 a.args.z.nr
 
   sum-small : (e : end.End) (b k : ℕ) → b + k ≤ a.args.z.nx → nat_abs (sum_z (gain_term e a.args.z a.args.image.now lows highs i) b k) < 2 ^ 51
-  sum-small e = state_small e a.args.z a.args.image.now a.args.ranges.now a.args.target.now i lows highs goal lows-held highs-held l.words_of-goal.ensures.0 (a.requires.sums i l.loop-i-test.true e)
+  sum-small e = state_small e a.args.z a.args.image.now a.args.ranges.now a.args.target.now i lows highs toward lows-held highs-held l.words_of-goal.ensures.0 (a.requires.sums i l.loop-i-test.true e)
 
   fits : (e : end.End) → SFits w64 (whole e)
-  fits e = fit_abs (whole e) (omega (arith, whole_small e a.args.z a.args.image.now a.args.ranges.now a.args.target.now i lows highs goal lows-held highs-held l.words_of-goal.ensures.0 (a.requires.sums i l.loop-i-test.true e)))
+  fits e = fit_abs (whole e) (omega (arith, whole_small e a.args.z a.args.image.now a.args.ranges.now a.args.target.now i lows highs toward lows-held highs-held l.words_of-goal.ensures.0 (a.requires.sums i l.loop-i-test.true e)))
 
   divided : (e : end.End) → floor (whole e) (2 ^ a.args.z.b) ≡ linear_end e a.args.z a.args.image.now a.args.ranges.now a.args.target.now i
-  divided e = linear_is e a.args.z a.args.image.now a.args.ranges.now a.args.target.now i lows highs goal lows-held highs-held l.words_of-goal.ensures.0 (a.requires.sums i l.loop-i-test.true e)
+  divided e = linear_is e a.args.z a.args.image.now a.args.ranges.now a.args.target.now i lows highs toward lows-held highs-held l.words_of-goal.ensures.0 (a.requires.sums i l.loop-i-test.true e)
 
 -- a turn's sums, as they are read back
 pair : {x s u v : ℤ} → x ≡ s → nat_abs s < 2 ^ 63 → u ≡ v → to_z w64 (of_z w64 x) +ℤ u ≡ s +ℤ v
@@ -104,7 +104,7 @@ pub gain_sum-g-requires : goal.gain_sum-g-requires
 gain_sum-g-requires c =
     let l = c in
     let s = a (goal.at.gain_sum-g-requires c).In-loop-i in
-    ((s.requires.whole, l.loop-i-test.true), (l.words_of-goal.ensures.1, λ b k h. omega (arith, target_small end.low s.args.z s.args.image.now s.args.ranges.now s.args.target.now (i (goal.at.gain_sum-g-requires c).In-loop-i) (lows (goal.at.gain_sum-g-requires c).In-loop-i) (highs (goal.at.gain_sum-g-requires c).In-loop-i) (goal (goal.at.gain_sum-g-requires c).In-loop-i) (lows-held (goal.at.gain_sum-g-requires c).In-loop-i) (highs-held (goal.at.gain_sum-g-requires c).In-loop-i) l.words_of-goal.ensures.0 (s.requires.sums (i (goal.at.gain_sum-g-requires c).In-loop-i) l.loop-i-test.true end.low) b k h)))
+    ((s.requires.whole, l.loop-i-test.true), (l.words_of-goal.ensures.1, λ b k h. omega (arith, target_small end.low s.args.z s.args.image.now s.args.ranges.now s.args.target.now (i (goal.at.gain_sum-g-requires c).In-loop-i) (lows (goal.at.gain_sum-g-requires c).In-loop-i) (highs (goal.at.gain_sum-g-requires c).In-loop-i) (toward (goal.at.gain_sum-g-requires c).In-loop-i) (lows-held (goal.at.gain_sum-g-requires c).In-loop-i) (highs-held (goal.at.gain_sum-g-requires c).In-loop-i) l.words_of-goal.ensures.0 (s.requires.sums (i (goal.at.gain_sum-g-requires c).In-loop-i) l.loop-i-test.true end.low) b k h)))
 
 pub overflow_add-x : goal.overflow_add-x
 overflow_add-x c = let d = c in subst (SFits w64) (sym (low_read (goal.at.overflow_add-x c).After-gain_sum-g)) (fits (l (goal.at.overflow_add-x c).After-gain_sum-g) end.low)

@@ -1,5 +1,4 @@
 -- Each way out has the tests that led there. Assumes nothing.
-use borrow.Author.Rules.{rules}
 use borrow.Author.Tests.{le-leb, lt-leb}
 use Rattle.word.proofs.is_format.Goals as goal
 

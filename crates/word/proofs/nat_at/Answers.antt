@@ -1,6 +1,5 @@
 use native.Mathlib.Omega.{arith}
 use Rattle.word.proofs.Words.{nat_four}
-use borrow.Author.Rules.{rules}
 use Rattle.word.proofs.nat_at.Goals as goal
 
 pub returns : goal.returns

@@ -1,6 +1,5 @@
 use native.Mathlib.Omega.{arith}
 use Rattle.word.proofs.Words.{nat_split}
-use borrow.Author.Rules.{rules}
 use Rattle.word.proofs.pattern_at.Goals as goal
 
 pub returns : goal.returns

@@ -3,7 +3,6 @@ use native.Mathlib.Omega.{arith}
 use lib.ListN.{length-set}
 use Rattle.word.proofs.Buffer.{put4}
 use Rattle.word.proofs.Words.{bytes_four}
-use borrow.Author.Rules.{rules}
 use Rattle.word.proofs.put_nat.Goals as goal
 
 pub bounds-out-at-2 : goal.bounds-out-at-2

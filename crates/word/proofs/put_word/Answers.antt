@@ -4,7 +4,6 @@ use mir.Facts.{to_z-of_z}
 use Rattle.integer.proofs.Machine.{wide32}
 use Rattle.word.specs.Buffer.{put_at}
 use Rattle.word.specs.Word.{bytes_of}
-use borrow.Author.Rules.{rules}
 use Rattle.word.proofs.put_word.Goals as goal
 
 pub returns : goal.returns

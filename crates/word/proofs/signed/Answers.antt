@@ -2,7 +2,6 @@ use mathlib.Core.Path.{refl}
 use mir.Facts.{to_z-of_z, sfits_to_z, Fits-of_lt}
 use mir.Syntax.{w32}
 use mir.Val.{to_z, SFits}
-use borrow.Author.Rules.{rules}
 use Rattle.integer.proofs.Machine.{wide32}
 use Rattle.word.proofs.Sign.{read_low, read_high}
 use Rattle.word.proofs.signed.Goals.{Start}

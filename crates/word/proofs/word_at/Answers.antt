@@ -3,7 +3,6 @@ use mir.Syntax.{w32}
 use mir.Val.{to_z}
 use mir.Facts.{to_z-of_z}
 use Rattle.integer.proofs.Machine.{fit}
-use borrow.Author.Rules.{rules}
 use Rattle.word.proofs.word_at.Goals as goal
 
 pub returns : goal.returns
