@@ -19,7 +19,7 @@ use Rattle.image.specs.Sizes.{command_count}
 use Rattle.frame.specs.Frame.{is_high}
 use Rattle.lines.specs.Lines.{line_fault, line_value, line_word}
 use Rattle.lines.proofs.Step.{OfCommand, fault_none, fault_refused, fault_word, of_command, pair_fault, pair_words, step_low, step_pair, step_word, value_fault_lem, value_is}
-use Rattle.lines.proofs.take_line.Goals.{After-command_of, After-command_of-then-d-eq4-unread, After-due_at-d, In-Double, In-Word, Start, Then-d-eq4, Then-d-eq5}
+use Rattle.lines.proofs.take_line.Goals.{After-command_of, After-due_at-d, In-Double, In-Word, Start, Then-d-eq4, Then-d-eq5}
 use Rattle.lines.proofs.take_line.Goals as goal
 
 -- the place is in the tables
@@ -158,22 +158,19 @@ returns-in-NoPair c s q r =
 pub command_of-requires-then-d-eq4 : goal.command_of-requires-then-d-eq4
 command_of-requires-then-d-eq4 c = ((sl c).requires.0, (of_low c).0, (of_low c).1)
 
--- the low that is kept now
-module _ (c : After-command_of-then-d-eq4-unread) where
-  abbrev ul : Start
-  ul = sl (goal.at.After-command_of-then-d-eq4-unread c).Then-d-eq4
-
-  low-command : c.command_of-then-d-eq4.result ≡ ul.args.i - low_base ul.args.z
-  low-command = c.command_of-then-d-eq4.ensures ∙ (of_low (goal.at.After-command_of-then-d-eq4-unread c).Then-d-eq4).2
-
-  low_small : c.command_of-then-d-eq4.result < 16
-  low_small = omega (arith, low-command, low_of ul.args.z ul.args.i (k4 (goal.at.After-command_of-then-d-eq4-unread c).Then-d-eq4), ul.requires.0.n_high)
+-- the command of the low that is kept now, k
+low_small : (c : Then-d-eq4) (k : ℕ) → k ≡ (sl c).args.i - low_base (sl c).args.z → k < 16
+low_small c k e = omega (arith, e, low_of (sl c).args.z (sl c).args.i (k4 c), (sl c).requires.0.n_high)
 
 pub offset_bounds-lows-command_of-then-d-eq4 : goal.offset_bounds-lows-command_of-then-d-eq4
-offset_bounds-lows-command_of-then-d-eq4 c = omega (arith, low_small c-unread)
+offset_bounds-lows-command_of-then-d-eq4 c =
+    let d = (goal.at.offset_bounds-lows-command_of-then-d-eq4 c).Then-d-eq4 in
+    omega (arith, low_small d _ (c.command_of-then-d-eq4.ensures ∙ (of_low d).2))
 
 pub bounds-lows-command_of-then-d-eq4 : goal.bounds-lows-command_of-then-d-eq4
-bounds-lows-command_of-then-d-eq4 c = low_small c
+bounds-lows-command_of-then-d-eq4 c =
+    let d = (goal.at.bounds-lows-command_of-then-d-eq4 c).Then-d-eq4 in
+    low_small d _ (c.command_of-then-d-eq4.ensures ∙ (of_low d).2)
 
 pub overflow_add-v : goal.overflow_add-v
 overflow_add-v c = omega (arith, small (goal.at.overflow_add-v c).After-due_at-d)
@@ -188,7 +185,7 @@ pub returns-then-d-eq4 : goal.returns-then-d-eq4
 returns-then-d-eq4 c s q r =
     let d = c in
     let u = sl (goal.at.returns-then-d-eq4 c).Then-d-eq4 in
-    (sym (taken (goal.at.returns-then-d-eq4 c).In-Word s q).0, λ n. step_low u.args.z s u.args.i u.args.words.now u.args.lows.now u.requires.0 u.requires.1 r (taken (goal.at.returns-then-d-eq4 c).In-Word s q).0 (x (kt (goal.at.returns-then-d-eq4 c).In-Word)) _ (ap value_double (value (kt (goal.at.returns-then-d-eq4 c).In-Word) s q)) (k4 (goal.at.returns-then-d-eq4 c).Then-d-eq4) (low-command c))
+    (sym (taken (goal.at.returns-then-d-eq4 c).In-Word s q).0, λ n. step_low u.args.z s u.args.i u.args.words.now u.args.lows.now u.requires.0 u.requires.1 r (taken (goal.at.returns-then-d-eq4 c).In-Word s q).0 (x (kt (goal.at.returns-then-d-eq4 c).In-Word)) _ (ap value_double (value (kt (goal.at.returns-then-d-eq4 c).In-Word) s q)) (k4 (goal.at.returns-then-d-eq4 c).Then-d-eq4) (c.command_of-then-d-eq4.ensures ∙ (of_low (goal.at.returns-then-d-eq4 c).Then-d-eq4).2))
 
 pub returns-else-d-eq4 : goal.returns-else-d-eq4
 returns-else-d-eq4 c s q r =
