@@ -27,10 +27,10 @@ module _ (c : After-struct_told-1) where
   is-natural = (natural x positive).1
 
   small : nat_abs x < 2 ^ 63
-  small = size x positive c.struct_told.given.0.1
+  small = size x positive c.struct_told-1.given.0.1
 
   same : to_z w64 (of_z w64 x) ≡ x
-  same = back x c.struct_told.given.0.1
+  same = back x c.struct_told-1.given.0.1
 
 pub overflow_cast-result : goal.overflow_cast-result
 overflow_cast-result c = rw (same c ∙ sym (is-natural c)) (tt, omega (arith, small c))

@@ -27,9 +27,9 @@ pub returns-then-number-eq0 : goal.returns-then-number-eq0
 returns-then-number-eq0 c =
     let n = c.commit_number-number in
     let e = eq-eqb n.result 0 c.if-number-eq0.true in
-    (n.ensures, (rw e c.issue.ensures, rw e c.move_on.ensures))
+    record { number = n.ensures; commands = rw e c.issue.ensures; drive = rw e c.move_on.ensures }
 
 pub returns-else-number-eq0 : goal.returns-else-number-eq0
 returns-else-number-eq0 c =
     let e = ne_eqb c.commit_number-number.result 0 c.if-number-eq0.false in
-    (c.commit_number-number.ensures, (rw e, rw e))
+    record { number = c.commit_number-number.ensures; commands = rw e; drive = rw e }

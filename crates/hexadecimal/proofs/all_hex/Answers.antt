@@ -1,8 +1,6 @@
 -- `hexadecimal::all_hex` meets its contract. The invariant: the first i bytes are digits. Assumes nothing.
-use borrow.Author.Tests.{not-true, not-false}
 use mathlib.Core.Path.{◌≡◌, refl, ap, sym, ◌∙◌}
-use mathlib.Core.Bool.{true}
-use Prim.Native.Nat.{ℕ, ◌≤◌, ◌-◌}
+use Prim.Native.Nat.{ℕ}
 use native.Mathlib.Omega.{arith}
 use Rattle.hexadecimal.specs.Hex.{hexes}
 use Rattle.hexadecimal.proofs.Hex.{hexes_more, hexes_not}

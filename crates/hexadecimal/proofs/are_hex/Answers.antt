@@ -2,7 +2,6 @@ use mathlib.Core.Path.{sym}
 use native.Mathlib.Omega.{arith}
 use Rattle.hexadecimal.specs.Hex.{hexes}
 use Rattle.hexadecimal.proofs.Hex.{hexes_cut}
-use borrow.Author.Rules.{rules}
 use Rattle.hexadecimal.proofs.are_hex.Goals as goal
 
 pub returns-then-k-eq0 : goal.returns-then-k-eq0

@@ -1,8 +1,6 @@
-use borrow.Author.Tests.{not-true, not-false}
 use mathlib.Core.Path.{sym, ◌∙◌}
 use native.Mathlib.Omega.{arith}
 use Rattle.hexadecimal.proofs.Hex.{Digit, hex_digit, low_digit, high_digit, figure_value, letter_value, other_value}
-use borrow.Author.Rules.{rules}
 use Rattle.hexadecimal.proofs.digit.Goals.{Else-not-is_hex}
 use Rattle.hexadecimal.proofs.digit.Goals as goal
 

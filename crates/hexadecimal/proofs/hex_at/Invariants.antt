@@ -1,12 +1,6 @@
-use mathlib.Core.Path.{◌≡◌, refl, ap, sym, ◌∙◌}
-use Prim.Native.Nat.{ℕ, ◌≤◌, ◌-◌, ◌<◌, ◌^◌, ◌*◌, ◌+◌}
-use native.Mathlib.Omega.{arith}
-use native.Mathlib.Nat.{lt_of_lt_of_le, pow-le-pow_right}
-use mir.Facts.{Fits-of_lt}
-use Rattle.word.specs.Digits.{number_be}
-use Rattle.word.proofs.Digits.{number_grows}
+use mathlib.Core.Path.{◌≡◌}
+use Prim.Native.Nat.{◌≤◌, ◌-◌, ◌<◌, ◌^◌}
 use Rattle.hexadecimal.specs.Hex.{hex_at}
-use Rattle.hexadecimal.proofs.Hex.{hex_more}
 use Rattle.hexadecimal.proofs.hex_at.Given as goal
 
 abbrev pub invariant-loop-i : goal.invariant-loop-i

@@ -1,8 +1,8 @@
 -- `hexadecimal::put_hex` meets its contract. The invariant: the digits left to write make the whole number. Assumes nothing.
 use mathlib.Core.Path.{◌≡◌, refl, sym, ap, ◌∙◌}
-use Prim.Native.Nat.{ℕ, suc, ◌-◌, ◌≤◌}
+use Prim.Native.Nat.{ℕ, suc, ◌-◌}
 use native.Mathlib.Omega.{arith}
-use lib.ListN.{length, length-set}
+use lib.ListN.{length-set}
 use Rattle.word.specs.Buffer.{put_at}
 use Rattle.word.specs.Digits.{digits_be}
 use Rattle.word.proofs.Buffer.{put_nothing}

@@ -1,12 +1,8 @@
-use mathlib.Core.Path.{◌≡◌, refl, sym, ap, ◌∙◌}
-use Prim.Native.Nat.{ℕ, suc, ◌-◌, ◌≤◌}
-use native.Mathlib.Omega.{arith}
-use lib.ListN.{length, length-set}
+use mathlib.Core.Path.{◌≡◌}
+use Prim.Native.Nat.{◌≤◌}
+use lib.ListN.{length}
 use Rattle.word.specs.Buffer.{put_at}
-use Rattle.word.specs.Digits.{digits_be}
-use Rattle.word.proofs.Buffer.{put_nothing}
 use Rattle.hexadecimal.specs.Hex.{hex_digits}
-use Rattle.hexadecimal.proofs.Hex.{put_more}
 use Rattle.hexadecimal.proofs.put_hex.Given as goal
 
 abbrev pub invariant-loop-i : goal.invariant-loop-i

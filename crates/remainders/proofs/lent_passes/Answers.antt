@@ -13,13 +13,13 @@ use Rattle.remainders.proofs.lent_passes.Goals as goal
 
 -- the function's entry, from each place, and the tests that have passed there
 abbrev at1 : Else-factors-count → Start
-at1 c = c.before.before.before.before
+at1 c = (goal.at.Else-factors-count c).Start
 
 abbrev at2 : Else-not-bounds_pass → Else-factors-count
-at2 c = c.before.before
+at2 c = (goal.at.Else-not-bounds_pass c).Else-factors-count
 
 abbrev at3 : Else-not-entries_pass → Else-factors-count
-at3 c = at2 c.before.before
+at3 c = (goal.at.Else-not-entries_pass c).Else-factors-count
 
 sized : (c : Else-factors-count) → size_test (at1 c).args.z (at1 c).args.factors.now ≡ true
 sized c = eq-eqb (length (at1 c).args.factors.now) (4 * lent_count (command_count (at1 c).args.z)) (omega (arith, c.if-factors-count.false))
@@ -47,7 +47,7 @@ pub returns-then-not-entries_pass : goal.returns-then-not-entries_pass
 unfolding lent_test
 returns-then-not-entries_pass c =
     let d = c in
-    rw (sized (at2 d), bounded (goal.at.returns-then-not-entries_pass c).Else-not-bounds_pass, sym c.entries_pass.ensures ∙ c.if-not-entries_pass.true)
+    rw (sized (at2 (goal.at.returns-then-not-entries_pass c).Else-not-bounds_pass), bounded (goal.at.returns-then-not-entries_pass c).Else-not-bounds_pass, sym c.entries_pass.ensures ∙ c.if-not-entries_pass.true)
 
 pub rows_pass-requires : goal.rows_pass-requires
 rows_pass-requires c = ready c
@@ -56,7 +56,7 @@ pub returns-then-not-rows_pass : goal.returns-then-not-rows_pass
 unfolding lent_test
 returns-then-not-rows_pass c =
     let d = c in
-    rw (sized (at3 d), bounded (goal.at.returns-then-not-rows_pass c).Else-not-bounds_pass, small (goal.at.returns-then-not-rows_pass c).Else-not-entries_pass, sym c.rows_pass.ensures ∙ c.if-not-rows_pass.true)
+    rw (sized (at3 (goal.at.returns-then-not-rows_pass c).Else-not-entries_pass), bounded (goal.at.returns-then-not-rows_pass c).Else-not-bounds_pass, small (goal.at.returns-then-not-rows_pass c).Else-not-entries_pass, sym c.rows_pass.ensures ∙ c.if-not-rows_pass.true)
 
 pub rows_pass-requires-2 : goal.rows_pass-requires-2
 rows_pass-requires-2 c = ready (goal.at.rows_pass-requires-2 c).Else-not-entries_pass
@@ -66,4 +66,4 @@ unfolding lent_test
 returns c =
     let e = c in
     let d = c in
-    rw (sized (at3 d), bounded (goal.at.returns c).Else-not-bounds_pass, small (goal.at.returns c).Else-not-entries_pass, sym e.rows_pass.ensures ∙ e.if-not-rows_pass.false) c.rows_pass-2.ensures
+    rw (sized (at3 (goal.at.returns c).Else-not-entries_pass), bounded (goal.at.returns c).Else-not-bounds_pass, small (goal.at.returns c).Else-not-entries_pass, sym e.rows_pass.ensures ∙ e.if-not-rows_pass.false) c.rows_pass-2.ensures

@@ -83,9 +83,9 @@ use Rattle.sheet.proofs.take_next.Symbol.{name as #sheet·take-next}
 use Rattle.sheet.proofs.take_next.Met as take-thm
 use Rattle.sheet.specs.contracts.read_through.Key.{name as #sheet·read-through}
 use Rattle.sheet.specs.contracts.read_through as through
-use Rattle.sheet.proofs.read_through.Statement as stated
 use Rattle.sheet.proofs.read_through.Code as code
 use Rattle.sheet.proofs.read_through.Code.Mir as body
+use Rattle.sheet.proofs.read_through.Goals as goal
 
 -- ---- the types
 abbrev Words : RattleType
@@ -206,16 +206,16 @@ module _ {M : Type 1} {𝓤 : Ura M} (𝓛 : Logic 𝓤) (mem : Memory → SProp
   abbrev to-next : ℕ → (Next 𝓛 mem run).Ghost
   to-next n = (((κ₂, tt), (q₂, tt), tt, (rd n, tt), (rv n ∷ [], tt)), tt)
 
-  asks-next : (n : ℕ) → n + 23 < 2 ^ 64 → ent 𝓤 (sep 𝓤 (sem 𝓛 ((T.the_row α).own_val (rd n) (rv n ∷ []))) (A.lft κ₂ q₂)) ((Next 𝓛 mem run).pre (to-next n))
+  asks-next : (n : ℕ) → n + 23 < 2 ^ 64 → ent 𝓤 (sep 𝓤 (sem 𝓛 ((T.the_row α).own_val (rd n) (rv n ∷ []))) (A.lft κ₂ q₂)) ((Next 𝓛 mem run).requires (to-next n))
   asks-next n ok = qed 𝓛 (‵ ((T.the_row α).own_val (rd n) (rv n ∷ [])) ∷ ‵ (flft κ₂ q₂) ∷ []) ∵ says ! ok $ nothing ! $ move ! (2 ∷ 0 ∷ []) $ join ! $ frame ! $ nothing ! $ move ! (1 ∷ 0 ∷ []) $ fjoin ! $ done !
 
   -- a reader is made of the text, which is kept
-  goes-next : (n : ℕ) → n + 23 < 2 ^ 64 → ent 𝓤 (sep 𝓤 (sem 𝓛 own-text) (A.lft κ₂ q₂)) (sep 𝓤 ((Next 𝓛 mem run).pre (to-next n)) (sem 𝓛 own-text))
+  goes-next : (n : ℕ) → n + 23 < 2 ^ 64 → ent 𝓤 (sep 𝓤 (sem 𝓛 own-text) (A.lft κ₂ q₂)) (sep 𝓤 ((Next 𝓛 mem run).requires (to-next n)) (sem 𝓛 own-text))
   goes-next n ok =
       qed 𝓛 (‵ own-text ∷ ‵ (flft κ₂ q₂) ∷ []) ∵ use1 𝓛 (‵ own-text ⊛ ‵ own-text) ((shr_slice_copy 𝓛 (named 2) κ₂ u8).twice s (v ∷ [])) $ split ! $
       nothing ! $ owned ! usize (Is usize) (uint_Makes 𝓛 w64) n _ (refl, omega arith) $ fjoin ! $ move ! (1 ∷ 0 ∷ []) $ fjoin ! $
       use1 𝓛 (‵ ((T.the_row α).own_val (rd n) (rv n ∷ []))) (own_shut 𝓛 (T.the_type α) (T'.the_laws α) (s, (n, tt))) $
-      move ! (0 ∷ 2 ∷ []) $ use2 𝓛 (raw ((Next 𝓛 mem run).pre (to-next n))) (asks-next n ok) $ frame ! $ done !
+      move ! (0 ∷ 2 ∷ []) $ use2 𝓛 (raw ((Next 𝓛 mem run).requires (to-next n))) (asks-next n ok) $ frame ! $ done !
 
   abbrev Stepped : ℕ → Step → Type 0
   Stepped n t = (t.line ≡ line_at s.now n) × (line_number t.line ≡ number_at s.now n) × (t.rest.sheet ≡ s) × (t.rest.at ≡ n + 23)
@@ -245,7 +245,7 @@ module _ {M : Type 1} {𝓤 : Ura M} (𝓛 : Logic 𝓤) (mem : Memory → SProp
     to_take = (((ν ∷ [], (ν' ∷ [], tt)), (full_share, (full_share, tt)), tt, passed, (vptr b o ∷ [], (vptr b' o' ∷ [], (pv p ∷ [], (lv l ∷ [], tt))))), tt)
 
     goes-take : Fits p → Read s.now p ws ls → 0 < p.left
-        → ent 𝓤 (⋆ 𝓛 (‵ (flft (ν ∷ []) full_share) ∷ ‵ (flft (ν' ∷ []) full_share) ∷ ‵ (own-words (ν ∷ []) δ ws) ∷ ‵ (own-lows (ν' ∷ []) δ' ls) ∷ ‵ ((S.the_row).own_val l (lv l ∷ [])) ∷ [])) ((Take 𝓛 mem run).pre to_take)
+        → ent 𝓤 (⋆ 𝓛 (‵ (flft (ν ∷ []) full_share) ∷ ‵ (flft (ν' ∷ []) full_share) ∷ ‵ (own-words (ν ∷ []) δ ws) ∷ ‵ (own-lows (ν' ∷ []) δ' ls) ∷ ‵ ((S.the_row).own_val l (lv l ∷ [])) ∷ [])) ((Take 𝓛 mem run).requires to_take)
     goes-take is r more =
         qed 𝓛 (‵ (flft (ν ∷ []) full_share) ∷ ‵ (flft (ν' ∷ []) full_share) ∷ ‵ (own-words (ν ∷ []) δ ws) ∷ ‵ (own-lows (ν' ∷ []) δ' ls) ∷ ‵ ((S.the_row).own_val l (lv l ∷ [])) ∷ []) ∵ says ! (more, (s.now, r)) $
         nothing ! $ move ! (2 ∷ 0 ∷ []) $ join ! $ move ! (1 ∷ 0 ∷ []) $ join ! $ frame ! $ nothing ! $ move ! (3 ∷ 0 ∷ []) $ fjoin ! $
@@ -316,7 +316,7 @@ module _ {M : Type 1} {𝓤 : Ura M} (𝓛 : Logic 𝓤) (mem : Memory → SProp
         stays ! (load ! (from ! (stop !)) (look ! 9 refl)) $
         assigns ! (of_opd ! (load ! (from ! (stop !)) (look ! 7 refl))) (from ! (stop !)) (init ! 10 refl (rd-typed n (omega (arith, fits)))) $
         -- [what words, lows and the text own; the tokens; _5; _6; _7; …; _12; _1; …; _4; _0; …]: the reader goes to `next`
-        move ! (2 ∷ 5 ∷ []) $ use2 𝓛 (raw ((Next 𝓛 mem run).pre (to-next n)) ⊛ ‵ own-text) (goes-next n fits) $ split ! $
+        move ! (2 ∷ 5 ∷ []) $ use2 𝓛 (raw ((Next 𝓛 mem run).requires (to-next n)) ⊛ ‵ own-text) (goes-next n fits) $ split ! $
         calls_at ! fm (Next 𝓛 mem run) known_next (to-next n) (and_then ! (load ! (from ! (stop !)) (look ! 10 refl)) (no_more !)) (λ u.
         use1 𝓛 (later (some (λ (t : Step). ((‵ (flft κ₂ q₂) ⊛ ‵ ftrue) ⊛ ‵ ((U.the_row α).own_val t (u ∷ []))) ⊛ raw (ensured 𝓛 next.ended (next.clauses 𝓛 mem run) (κ₂, tt) (rd n, tt) tt t)))) (id⊢ 𝓤 _) $ await ! tt $ pick ! (λ t.
         split ! $ move ! (1 ∷ []) $ use1 𝓛 (raw (fact 𝓤 (Stepped n t))) (next-said n t) $ heard ! (Stepped n t) (λ e. split ! $ move ! (1 ∷ []) $
@@ -337,7 +337,7 @@ module _ {M : Type 1} {𝓤 : Ura M} (𝓛 : Logic 𝓤) (mem : Memory → SProp
         use2 𝓛 (later (some (λ (δ : GName). ‵ (own-words (ν ∷ []) δ ws) ⊛ ‵ (LentAgain Words κ₀ (ν ∷ []) q₀ γ b o δ ws)))) (lends_again 𝓛 Words (named 0) κ₀ (ν ∷ []) q₀ γ b o (named 0) ws) $ await ! tt $ pick ! (λ δ. split ! $
         lft_new ! tt (λ ν'. move ! (7 ∷ 8 ∷ []) $
         use2 𝓛 (later (some (λ (δ' : GName). ‵ (own-lows (ν' ∷ []) δ' ls) ⊛ ‵ (LentAgain Lows κ₁ (ν' ∷ []) q₁ γ' b' o' δ' ls)))) (lends_again 𝓛 Lows (named 1) κ₁ (ν' ∷ []) q₁ γ' b' o' (named 1) ls) $ await ! tt $ pick ! (λ δ'. split ! $
-        move ! (5 ∷ 2 ∷ 3 ∷ 0 ∷ 6 ∷ []) $ group ! 5 $ use1 𝓛 (raw ((Take 𝓛 mem run).pre (to_take p ws ls t.line ν ν' δ δ'))) (goes-take p ws ls t.line ν ν' δ δ' is r due) $
+        move ! (5 ∷ 2 ∷ 3 ∷ 0 ∷ 6 ∷ []) $ group ! 5 $ use1 𝓛 (raw ((Take 𝓛 mem run).requires (to_take p ws ls t.line ν ν' δ δ'))) (goes-take p ws ls t.line ν ν' δ δ' is r due) $
         calls_at_last ! fm (Take 𝓛 mem run) known-take (to_take p ws ls t.line ν ν' δ δ')
         (and_then ! (load ! (from ! (stop !)) (look ! 10 refl)) (and_then ! (load ! (from ! (stop !)) (look ! 11 refl)) (and_then ! (load ! (from ! (stop !)) (look ! 5 refl)) (and_then ! (load ! (from ! (stop !)) (look ! 12 refl)) (no_more !))))) (λ w.
         use1 𝓛 (later (some (λ (p' : Progress). ((‵ (flft (ν ∷ []) full_share) ⊛ ‵ (flft (ν' ∷ []) full_share) ⊛ ‵ ftrue) ⊛ ‵ ((P.the_row).own_val p' (w ∷ []))) ⊛ raw (ensured 𝓛 take.ended (take.clauses 𝓛 mem run) (ν ∷ [], (ν' ∷ [], tt)) (passed p ws ls t.line ν ν' δ δ') tt p')))) (id⊢ 𝓤 _) $ await ! tt $ pick ! (λ p'.
@@ -437,12 +437,3 @@ module _ {M : Type 1} {𝓤 : Ura M} (𝓛 : Logic 𝓤) (mem : Memory → SProp
   through-meets = walk_Meets 𝓛 through.ended stayed
       (Goes-ref 𝓛 3 0 tt words-slot, (Goes-ref 𝓛 3 1 tt lows-slot, (Goes-none_slice 𝓛 3 (2 ∷ []) tt (plain (λ _. u8)) yes, (Goes-none 𝓛 3 (λ _. P.the_row) yes (λ κs x f. refl), tt))))
       (through.clauses 𝓛 mem run) (WpFn 𝓤 H 𝓣.C 𝓣.Λ code.function) (WpFn-mono 𝓤 H 𝓛.laws 𝓣 code.function) through_walks
-
-pub read-through-spec : {M : Type 1} → stated.statement M
-unfolding code.routine tables_of
-read-through-spec 𝓤 𝓛 𝓜 𝓡 =
-    entered 𝓤 𝓛.H (triple_of 𝓛 through.signature (through.spec 𝓛 𝓜.mem 𝓡.run))
-    (tables 𝓤 𝓛.H 𝓜 𝓡 code.env).C (tables 𝓤 𝓛.H 𝓜 𝓡 code.env).Λ #sheet·read-through code.function (code.unfolded 𝓤 𝓛.H 𝓜 𝓡)
-    (through-meets 𝓛 𝓜.mem 𝓡.run (tables_of 𝓤 𝓛.H 𝓜 (tables 𝓤 𝓛.H 𝓜 𝓡 code.env))
-    (cited 𝓤 𝓛.H (Next 𝓛 𝓜.mem 𝓡.run) 𝓜 𝓡 code.env #line·next next-def.routine code.calls-line::next (next-thm.met 𝓤 𝓛 𝓜 𝓡))
-    (cited 𝓤 𝓛.H (Take 𝓛 𝓜.mem 𝓡.run) 𝓜 𝓡 code.env #sheet·take-next take-def.routine code.calls-sheet::take-next (take-thm.met 𝓤 𝓛 𝓜 𝓡)))
