@@ -6,7 +6,7 @@ ghost use Rattle.array.specs.Arrays.{Filled, NatsTo};
 ghost use Rattle.bounds.specs.Steps.{e_at, Fitting, WeightsTo, Stored};
 
 // What stays the same over the iterations, but for |M|.
-#[derive(Drop)]
+#[derive(Clone, Copy)]
 pub struct BoundTerms {
     pub width: [u64; 16],
     pub momentum: u64,

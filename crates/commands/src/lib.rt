@@ -8,7 +8,7 @@ ghost use Rattle.array.specs.Arrays.{Filled, WordsTo, RowsTo};
 ghost use Rattle.commands.specs.Steps.{point_of, z_at, Fitting, SumsTo, StoredY, StoredZ};
 
 // What stays the same over the iterations, but for M.
-#[derive(Drop)]
+#[derive(Clone, Copy)]
 pub struct CommandTerms {
     pub lower: [i64; 16],
     pub upper: [i64; 16],

@@ -6,7 +6,7 @@ ghost use Rattle.optimum.specs.Optimum.{largest_n};
 ghost use Rattle.residual.specs.Terms.{difference_of, difference_at, Small, Ready};
 
 // What R takes but for M and the commands: the limits, and the linear terms undivided.
-#[derive(Drop)]
+#[derive(Clone, Copy)]
 pub struct ResidualTerms {
     pub lower: [i64; 16],
     pub upper: [i64; 16],

@@ -39,21 +39,21 @@ pub diagonal_at-d-requires : goal.diagonal_at-d-requires
 diagonal_at-d-requires c = c.requires.0.1
 
 pub overflow_sub-result : goal.overflow_sub-result
-overflow_sub-result c = let d = c in rw (back (h (goal.at.overflow_sub-result c).After-diagonal_at-d) d.cost_at-h.type_inv, back (g (goal.at.overflow_sub-result c).After-diagonal_at-d) d.diagonal_at-d.type_inv) (less (goal.at.overflow_sub-result c).After-diagonal_at-d).ranges
+overflow_sub-result c = let d = c in rw (back (h (goal.at.overflow_sub-result c).After-diagonal_at-d) d.cost_at-h.type_inv, back (g (goal.at.overflow_sub-result c).After-diagonal_at-d) d.diagonal_at-d.type_inv) (less (goal.at.overflow_sub-result c).After-diagonal_at-d).fits
 
 pub overflow_sub-result-in-Most : goal.overflow_sub-result-in-Most
-overflow_sub-result-in-Most c = let d = c in rw (back (h (goal.at.overflow_sub-result-in-Most c).After-diagonal_at-d) d.cost_at-h.type_inv, back (g (goal.at.overflow_sub-result-in-Most c).After-diagonal_at-d) d.diagonal_at-d.type_inv) (from (goal.at.overflow_sub-result-in-Most c).After-diagonal_at-d).ranges
+overflow_sub-result-in-Most c = let d = c in rw (back (h (goal.at.overflow_sub-result-in-Most c).After-diagonal_at-d) d.cost_at-h.type_inv, back (g (goal.at.overflow_sub-result-in-Most c).After-diagonal_at-d) d.diagonal_at-d.type_inv) (from (goal.at.overflow_sub-result-in-Most c).After-diagonal_at-d).fits
 
 pub returns-in-Least : goal.returns-in-Least
 returns-in-Least c =
     let d = c in
     let a = d.args in
-    rw (back (h (goal.at.returns-in-Least c).After-diagonal_at-d) d.cost_at-h.type_inv, back (g (goal.at.returns-in-Least c).After-diagonal_at-d) d.diagonal_at-d.type_inv, to_z-of_z (less (goal.at.returns-in-Least c).After-diagonal_at-d).ranges)
+    rw (back (h (goal.at.returns-in-Least c).After-diagonal_at-d) d.cost_at-h.type_inv, back (g (goal.at.returns-in-Least c).After-diagonal_at-d) d.diagonal_at-d.type_inv, to_z-of_z (less (goal.at.returns-in-Least c).After-diagonal_at-d).fits)
     (less_is a.v a.z a.image.now a.factors.now a.i a.j (h (goal.at.returns-in-Least c).After-diagonal_at-d) (g (goal.at.returns-in-Least c).After-diagonal_at-d) c.in-Least.is d.cost_at-h.ensures.0 d.diagonal_at-d.ensures.0, (less (goal.at.returns-in-Least c).After-diagonal_at-d).small)
 
 pub returns-in-Most : goal.returns-in-Most
 returns-in-Most c =
     let d = c in
     let a = d.args in
-    rw (back (h (goal.at.returns-in-Most c).After-diagonal_at-d) d.cost_at-h.type_inv, back (g (goal.at.returns-in-Most c).After-diagonal_at-d) d.diagonal_at-d.type_inv, to_z-of_z (from (goal.at.returns-in-Most c).After-diagonal_at-d).ranges)
+    rw (back (h (goal.at.returns-in-Most c).After-diagonal_at-d) d.cost_at-h.type_inv, back (g (goal.at.returns-in-Most c).After-diagonal_at-d) d.diagonal_at-d.type_inv, to_z-of_z (from (goal.at.returns-in-Most c).After-diagonal_at-d).fits)
     (from_is a.v a.z a.image.now a.factors.now a.i a.j (h (goal.at.returns-in-Most c).After-diagonal_at-d) (g (goal.at.returns-in-Most c).After-diagonal_at-d) c.in-Most.is d.cost_at-h.ensures.0 d.diagonal_at-d.ensures.0, (from (goal.at.returns-in-Most c).After-diagonal_at-d).small)

@@ -36,10 +36,9 @@ body_count-requires c =
 
 pub returns-in-Sized : goal.returns-in-Sized
 returns-in-Sized c =
-    let h = c in
-    let z = c.z.given in (
+    let h = c in (
       omega arith,
-      λ s ls q room. sizes_taken s _ ls z.0.0 (a (goal.at.returns-in-Sized c).After-head_of).args.words.now _ (head-of-text (goal.at.returns-in-Sized c).After-head_of s _ q z.1) (a (goal.at.returns-in-Sized c).After-head_of).requires.1 c.put_sizes.ensures (c.body_count.ensures ∙ sym (total_is z.0.0)) room,
+      λ s ls q room. sizes_taken s _ ls c.in-Sized.z (a (goal.at.returns-in-Sized c).After-head_of).args.words.now _ (head-of-text (goal.at.returns-in-Sized c).After-head_of s _ q c.in-Sized.is) (a (goal.at.returns-in-Sized c).After-head_of).requires.1 c.put_sizes.ensures (c.body_count.ensures ∙ sym (total_is c.in-Sized.z)) room,
     )
 
 pub returns-in-Unsized : goal.returns-in-Unsized
