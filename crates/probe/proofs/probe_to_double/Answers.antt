@@ -1,5 +1,4 @@
 -- `probe::probe_to_double` meets its contract. Assumes nothing.
-use borrow.Author.Rules.{rules}
 use mathlib.Core.Path.{◌≡◌, refl, ap, ◌∙◌}
 use Prim.Native.Nat.{◌^◌}
 use lib.Ieee.{binary64, to_bits}
