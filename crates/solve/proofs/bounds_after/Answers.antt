@@ -56,12 +56,12 @@ module _ (c : After-store) where
   t = (goal.at.After-store c).After-bound_terms-t
 
   abbrev new : List ℕ
-  new = c.next_e.new.t.1.1.0
+  new = c.next_e.new.new
 
   made : Filled 0 t.bound_terms-t.result.n (e_at z.magnitudes_of-magnitudes.result t.bound_terms-t.result l.loop-k.q) new
   made = c.next_e.ensures
 
-  next : BoundsAt (problem_of (image (d t))) (suc l.loop-k.k) c.store.new.new.new.t c.store.new.new.new.new.t
+  next : BoundsAt (problem_of (image (d t))) (suc l.loop-k.k) c.store.new.e c.store.new.q
   next =
       let ok = (start (d t)).requires.0 in
       reached (m t) z.magnitudes_of-magnitudes.result (rows t) (rep t) ok.sized ok.room z.magnitudes_of-magnitudes.ensures l.loop-k.k l.loop-k.e l.loop-k.q l.loop-k.invariant.1.0 new _ _ c.store.result made c.store.ensures

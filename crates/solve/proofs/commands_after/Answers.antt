@@ -51,7 +51,7 @@ module _ (c : After-command_terms-t) where
   chk = checked (start d).requires.0
 
   n-is : c.command_terms-t.result.n ≡ command_count (sizes_of (image d))
-  n-is = c.command_terms-t.ensures.n-is ∙ ap (λ (z : Sizes). command_count z) d.sizes_of-s.ensures
+  n-is = c.command_terms-t.ensures.n_is ∙ ap (λ (z : Sizes). command_count z) d.sizes_of-s.ensures
 
 -- what an iteration made
 module _ (c : After-store_z) where
@@ -68,7 +68,7 @@ module _ (c : After-store_z) where
   first = (goal.at.After-store_z c).After-store_y-same
 
   abbrev new : List ℤ
-  new = g.next_z.last.t.1.1.0
+  new = g.next_z.new.new
 
   made : Filled (pos 0) t.command_terms-t.result.n (z_at (m t) t.command_terms-t.result l.loop-k.y) new
   made = g.next_z.ensures
@@ -76,7 +76,7 @@ module _ (c : After-store_z) where
   taken : l.loop-k.k < (start (d t)).args.count
   taken = g.before.before.before.before.loop-k-test.true
 
-  next : At (image (d t)) (start (d t)).args.state.now (start (d t)).args.target.now (start (d t)).args.start.now (suc l.loop-k.k) c.store_z.new.new.new.n first.store_y-same.last.b.1.1.1.1.0
+  next : At (image (d t)) (start (d t)).args.state.now (start (d t)).args.target.now (start (d t)).args.start.now (suc l.loop-k.k) c.store_z.new.z first.store_y-same.new.y
   next = reached (m t) (rows t) (rep t) (chk t) l.loop-k.k l.loop-k.z l.loop-k.y l.loop-k.invariant.1.0 new _ _ made first.store_y-same.ensures c.store_z.ensures
 
 pub sizes_of-s-requires : goal.sizes_of-s-requires
@@ -92,7 +92,7 @@ words_of-z-requires c =
     let t = c in
     let n = n-is (goal.at.words_of-z-requires c).After-command_terms-t in
     let w = (is_whole (goal.at.words_of-z-requires c).After-sizes_of-s).sizes.n_high in
-    (omega (arith, t.command_terms-t.ensures.n-is), omega (arith, (start (goal.at.words_of-z-requires c).After-sizes_of-s).requires.0.start_size))
+    (omega (arith, t.command_terms-t.ensures.n_is), omega (arith, (start (goal.at.words_of-z-requires c).After-sizes_of-s).requires.0.start_size))
 
 pub blank-new-requires : goal.blank-new-requires
 blank-new-requires c = tt
@@ -109,7 +109,7 @@ next_z-requires c =
     let l = c in
     let t = c in
     let i = l.loop-k.invariant.1 in
-    ((fitting (m (goal.at.next_z-requires c).After-command_terms-t) (rows (goal.at.next_z-requires c).After-command_terms-t) (rep (goal.at.next_z-requires c).After-command_terms-t) (chk (goal.at.next_z-requires c).After-command_terms-t), row_words (m (goal.at.next_z-requires c).After-command_terms-t) (chk (goal.at.next_z-requires c).After-command_terms-t).sized (rep (goal.at.next_z-requires c).After-command_terms-t).n-is (rows (goal.at.next_z-requires c).After-command_terms-t)), ((y_words (m (goal.at.next_z-requires c).After-command_terms-t) (rows (goal.at.next_z-requires c).After-command_terms-t) (rep (goal.at.next_z-requires c).After-command_terms-t) (chk (goal.at.next_z-requires c).After-command_terms-t) l.loop-k.k l.loop-k.z l.loop-k.y i.0, sums (m (goal.at.next_z-requires c).After-command_terms-t) (rows (goal.at.next_z-requires c).After-command_terms-t) (rep (goal.at.next_z-requires c).After-command_terms-t) (chk (goal.at.next_z-requires c).After-command_terms-t) l.loop-k.k l.loop-k.z l.loop-k.y i.0), i.1))
+    ((fitting (m (goal.at.next_z-requires c).After-command_terms-t) (rows (goal.at.next_z-requires c).After-command_terms-t) (rep (goal.at.next_z-requires c).After-command_terms-t) (chk (goal.at.next_z-requires c).After-command_terms-t), row_words (m (goal.at.next_z-requires c).After-command_terms-t) (chk (goal.at.next_z-requires c).After-command_terms-t).sized (rep (goal.at.next_z-requires c).After-command_terms-t).n_is (rows (goal.at.next_z-requires c).After-command_terms-t)), ((y_words (m (goal.at.next_z-requires c).After-command_terms-t) (rows (goal.at.next_z-requires c).After-command_terms-t) (rep (goal.at.next_z-requires c).After-command_terms-t) (chk (goal.at.next_z-requires c).After-command_terms-t) l.loop-k.k l.loop-k.z l.loop-k.y i.0, sums (m (goal.at.next_z-requires c).After-command_terms-t) (rows (goal.at.next_z-requires c).After-command_terms-t) (rep (goal.at.next_z-requires c).After-command_terms-t) (chk (goal.at.next_z-requires c).After-command_terms-t) l.loop-k.k l.loop-k.z l.loop-k.y i.0), i.1))
 
 pub store_y-same-requires : goal.store_y-same-requires
 store_y-same-requires c =

@@ -27,5 +27,5 @@ returns c =
     let x = c.put_commands_and_bounds in
     let d = pattern_bytes a.args.d in
     c.put_pattern.ensures
-    ∙ put_behind x.new.0 (drop at out) d at (x.auto.0 ∙ length-take-le at out (omega arith)) (omega (arith, length-drop at out, length_bytes 8 a.args.d))
+    ∙ put_behind x.new.out (drop at out) d at (x.auto.out ∙ length-take-le at out (omega arith)) (omega (arith, length-drop at out, length_bytes 8 a.args.d))
     ∙ ap (λ (o : List ℕ). o ++ d) x.ensures

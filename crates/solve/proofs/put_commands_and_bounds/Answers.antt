@@ -21,6 +21,6 @@ returns c =
     let a = c.args in
     let at = 4 * length a.z.now in
     let x = c.put_words in
-    let n : length x.new.0 ≡ at = x.auto.0 ∙ length-take-le at a.out.now (omega arith) in
-    behind x.new.0 c.put_bounds.new.out (drop at a.out.now) at (length (x.new.0 ++ drop at a.out.now) - at) n (omega (arith, length-append x.new.0 (drop at a.out.now)))
+    let n : length x.new.out ≡ at = x.auto.out ∙ length-take-le at a.out.now (omega arith) in
+    behind x.new.out c.put_bounds.new.out (drop at a.out.now) at (length (x.new.out ++ drop at a.out.now) - at) n (omega (arith, length-append x.new.out (drop at a.out.now)))
     ∙ (cc (x.ensures, c.put_bounds.ensures))
