@@ -2,7 +2,6 @@ use native.Mathlib.Omega.{arith}
 use Prim.Native.Nat.{◌+◌, ◌*◌, ◌≤◌}
 use Rattle.image.specs.Sizes.{command_count, body_count}
 use Rattle.image.proofs.Sized.{row_end}
-use borrow.Author.Rules.{rules}
 use Rattle.image.proofs.gain_offset.Goals.{After-input_count}
 use Rattle.image.proofs.gain_offset.Goals as goal
 

@@ -3,7 +3,6 @@ use Prim.Native.Nat.{ℕ, ◌+◌, ◌*◌}
 use Rattle.integer.proofs.Machine.{back}
 use Rattle.word.specs.Word.{word_at}
 use Rattle.image.specs.Layout.{limit_at}
-use borrow.Author.Rules.{rules}
 use Rattle.image.proofs.limit_at.Goals as goal
 
 pub returns : goal.returns

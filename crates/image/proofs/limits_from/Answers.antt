@@ -1,5 +1,4 @@
 use native.Mathlib.Omega.{arith}
-use borrow.Author.Rules.{rules}
 use Rattle.image.proofs.limits_from.Goals as goal
 
 pub returns-in-State : goal.returns-in-State

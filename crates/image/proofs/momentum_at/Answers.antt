@@ -4,7 +4,6 @@ use Prim.Native.Nat.{◌+◌, ◌*◌}
 use Rattle.integer.proofs.Machine.{back}
 use Rattle.word.specs.Word.{word_at}
 use Rattle.image.specs.Layout.{momentum_at, momentum_place}
-use borrow.Author.Rules.{rules}
 use Rattle.image.proofs.momentum_at.Goals as goal
 
 pub returns : goal.returns

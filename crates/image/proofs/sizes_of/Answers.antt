@@ -1,6 +1,4 @@
 use Rattle.image.specs.Layout.{sizes_of}
-use borrow.Author.Rules.{rules}
-use Rattle.word.proofs.nat_at.Reads as nat-at-reads
 use Rattle.image.proofs.sizes_of.Goals as goal
 
 pub returns : goal.returns

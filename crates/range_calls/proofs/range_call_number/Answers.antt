@@ -26,4 +26,4 @@ returns-then-not-ranges_pass c = rw (passing (goal.at.returns-then-not-ranges_pa
 
 pub returns : goal.returns
 unfolding range_call_number
-returns c = rw (passing (goal.at.returns c).After-ranges_pass _ (c.if-not-ranges_pass.left)) c.rest_number.ensures
+returns c = rw (passing (goal.at.returns c).After-ranges_pass _ (c.if-not-ranges_pass.false)) c.rest_number.ensures

@@ -15,7 +15,7 @@ use Rattle.range_calls.proofs.range_solve_number.Goals as goal
 head : (c : Else-number-ne0) → Whole (sizes_of c.args.image.now) c.args.image.now
 head c =
     let a = c.args in
-    (range_solvable a.image.now a.ranges.now a.target.now a.start.now (sym c.range_solvable_number-number.ensures ∙ c.if-number-ne0.left)).accepted.whole
+    (range_solvable a.image.now a.ranges.now a.target.now a.start.now (sym c.range_solvable_number-number.ensures ∙ c.if-number-ne0.false)).accepted.whole
 
 whole : (c : After-sizes_of-z) → Whole c.sizes_of-z.result c.args.image.now
 whole c = whole_of c.sizes_of-z.ensures (head (goal.at.After-sizes_of-z c).Else-number-ne0)
@@ -37,10 +37,10 @@ pub returns-then-room-z : goal.returns-then-room-z
 unfolding range_solve_number
 returns-then-room-z c =
     let d = c in
-    onward _ _ _ _ d.range_solvable_number-number.ensures d.if-number-ne0.left (buffer_fits _ _ (c.if-room-z.true ∙ ap (λ (z : Sizes). range_answer_length z) d.sizes_of-z.ensures))
+    onward _ _ _ _ d.range_solvable_number-number.ensures d.if-number-ne0.false (buffer_fits _ _ (c.if-room-z.true ∙ ap (λ (z : Sizes). range_answer_length z) d.sizes_of-z.ensures))
 
 pub returns-else-room-z : goal.returns-else-room-z
 unfolding range_solve_number
 returns-else-room-z c =
     let d = c in
-    onward _ _ _ _ d.range_solvable_number-number.ensures d.if-number-ne0.left (buffer_refused _ _ (λ e. c.if-room-z.left (e ∙ sym (ap (λ (z : Sizes). range_answer_length z) d.sizes_of-z.ensures))))
+    onward _ _ _ _ d.range_solvable_number-number.ensures d.if-number-ne0.false (buffer_refused _ _ (λ e. c.if-room-z.false (e ∙ sym (ap (λ (z : Sizes). range_answer_length z) d.sizes_of-z.ensures))))

@@ -20,7 +20,7 @@ test a t e = rw (to_z-of_z (wide32 a.requires.1), to_z-of_z (wide32 a.requires.0
 
 -- the order has passed
 order : (c : Else-high-low) → le_z c.args.low c.args.high ≡ true
-order c = nlt_le c.args.high c.args.low (test (goal.at.Else-high-low c).Start false c.if-high-low.left)
+order c = nlt_le c.args.high c.args.low (test (goal.at.Else-high-low c).Start false c.if-high-low.false)
 
 -- the magnitude of the low
 low-size : (c : After-size) → c.size.result ≡ nat_abs c.args.low
@@ -41,4 +41,4 @@ unfolding interval_within
 returns c =
     let s = c in
     let high : c.size-2.result ≡ nat_abs s.args.high = c.size-2.ensures.0 ∙ ap nat_abs (to_z-of_z (wide32 s.requires.1)) in
-    rw (order (goal.at.returns c).Else-high-low, le-leb (nat_abs s.args.low) s.args.limit (omega (arith, low-size (goal.at.returns c).After-size, c.if-limit-size.left)), high) refl
+    rw (order (goal.at.returns c).Else-high-low, le-leb (nat_abs s.args.low) s.args.limit (omega (arith, low-size (goal.at.returns c).After-size, c.if-limit-size.false)), high) refl
