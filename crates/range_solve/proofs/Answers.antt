@@ -16,10 +16,10 @@ use Rattle.range_interface.proofs.Guaranteed.{carried_length}
 use Rattle.range_solve.specs.Reached.{EndFilled}
 
 -- the first n of an array that holds an end of the n carried commands
-pub ends-are : {image ranges target start : List ℕ} → RangeSolvable image ranges target start → (n : ℕ) → n ≡ command_count (sizes_of image) → n ≤ 16
+pub ends_are : {image ranges target start : List ℕ} → RangeSolvable image ranges target start → (n : ℕ) → n ≡ command_count (sizes_of image) → n ≤ 16
     → (e : End) (l : List ℤ) → EndFilled e (command_count (sizes_of image)) (ranges_after image ranges target start (sizes_of image).sweeps) l
     → take n l ≡ map (end_of e) (ranges_after image ranges target start (sizes_of image).sweeps)
-ends-are {image} {ranges} {target} {start} s n q few e l f =
+ends_are {image} {ranges} {target} {start} s n q few e l f =
     let xs = ranges_after image ranges target start (sizes_of image).sweeps in
     let long = carried_length image ranges target start s in
     taken (pos 0) l (map (end_of e) xs) n (omega (arith, f.sized)) (length-map xs (end_of e) ∙ long ∙ sym q)

@@ -17,7 +17,7 @@ fill-requires c =
 pub returns-then-number-eq0 : goal.returns-then-number-eq0
 returns-then-number-eq0 c =
     let n = c.make_number-number in
-    (n.ensures, rw (eq-eqb n.result 0 c.if-number-eq0.true) c.fill.ensures)
+    record { number = n.ensures; drive = rw (eq-eqb n.result 0 c.if-number-eq0.true) c.fill.ensures }
 
 pub returns-else-number-eq0 : goal.returns-else-number-eq0
-returns-else-number-eq0 c = (c.make_number-number.ensures, rw (ne_eqb c.make_number-number.result 0 c.if-number-eq0.false))
+returns-else-number-eq0 c = record { number = c.make_number-number.ensures; drive = rw (ne_eqb c.make_number-number.result 0 c.if-number-eq0.false) }

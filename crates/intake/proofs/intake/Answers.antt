@@ -50,12 +50,15 @@ module _ (d : Else-image-count) where
 pub returns-then-number-ne0 : goal.returns-then-number-ne0
 returns-then-number-ne0 c =
     let s = c.args in
-    (refused_call s.sheet.now _ _ _ c.read_design-t.ensures (length s.image.now) c.if-number-ne0.true, unwritten _ _ _ c.if-number-ne0.true)
+    record {
+      number = refused_call s.sheet.now _ _ _ c.read_design-t.ensures (length s.image.now) c.if-number-ne0.true;
+      bytes = unwritten _ _ _ c.if-number-ne0.true;
+    }
 
 pub returns-then-image-count : goal.returns-then-image-count
 returns-then-image-count c =
     let d = c in
-    (refused_room (sheet (goal.at.returns-then-image-count c).Else-number-ne0) _ _ _ (rd (goal.at.returns-then-image-count c).Else-number-ne0).read_design-t.ensures (zero (goal.at.returns-then-image-count c).Else-number-ne0) _ c.if-image-count.true, refl)
+    record { number = refused_room (sheet (goal.at.returns-then-image-count c).Else-number-ne0) _ _ _ (rd (goal.at.returns-then-image-count c).Else-number-ne0).read_design-t.ensures (zero (goal.at.returns-then-image-count c).Else-number-ne0) _ c.if-image-count.true; bytes = refl }
 
 pub slice_bounds-words-end : goal.slice_bounds-words-end
 slice_bounds-words-end c = let d = design (goal.at.slice_bounds-words-end c).Else-image-count in room_for (sheet d) _ _ _ (passed d) (zero d)
@@ -72,7 +75,8 @@ put_words-requires c =
 pub returns : goal.returns
 returns c =
     let e = c in
-    let d = design (goal.at.returns c).Else-image-count in (
-      accepted_call (sheet d) _ _ _ (rd d).read_design-t.ensures (zero d) _ (exact (goal.at.returns c).Else-image-count),
-      c.put_words.ensures ∙ read_image (sheet d) _ _ _ (passed d) (zero d),
-    )
+    let d = design (goal.at.returns c).Else-image-count in
+    record {
+      number = accepted_call (sheet d) _ _ _ (rd d).read_design-t.ensures (zero d) _ (exact (goal.at.returns c).Else-image-count);
+      bytes = c.put_words.ensures ∙ read_image (sheet d) _ _ _ (passed d) (zero d);
+    }

@@ -72,7 +72,7 @@ module _ (c : After-terms_with-u) where
   high-terms = has_terms d.sizes_of-s.result (image d) d.sizes_of-s.ensures (term end.low) (with_linear linears.linear_ends-h.ensures.lowest c.terms_with-u.ensures)
 
   n-is : c.terms_with-t.result.n ≡ command_count (sizes_of (image d))
-  n-is = c.terms_with-t.ensures.n-is ∙ ap (λ (z : Sizes). command_count z) d.sizes_of-s.ensures
+  n-is = c.terms_with-t.ensures.n_is ∙ ap (λ (z : Sizes). command_count z) d.sizes_of-s.ensures
 
 pub sizes_of-s-requires : goal.sizes_of-s-requires
 sizes_of-s-requires c = omega (arith, c.requires.0.accepted.whole.size)
@@ -91,7 +91,7 @@ terms_with-u-requires c = (is_whole (goal.at.terms_with-u-requires c).After-size
 pub magnitudes_of-magnitudes-requires : goal.magnitudes_of-magnitudes-requires
 magnitudes_of-magnitudes-requires c =
     let t = c in
-    ((law.fitting (chk (d (goal.at.magnitudes_of-magnitudes-requires c).After-terms_with-u)) end.low (low-terms (goal.at.magnitudes_of-magnitudes-requires c).After-terms_with-u)).few, row_words (m (d (goal.at.magnitudes_of-magnitudes-requires c).After-terms_with-u)) (chk (d (goal.at.magnitudes_of-magnitudes-requires c).After-terms_with-u)).sized (low-terms (goal.at.magnitudes_of-magnitudes-requires c).After-terms_with-u).n-is (rows (d (goal.at.magnitudes_of-magnitudes-requires c).After-terms_with-u)))
+    ((law.fitting (chk (d (goal.at.magnitudes_of-magnitudes-requires c).After-terms_with-u)) end.low (low-terms (goal.at.magnitudes_of-magnitudes-requires c).After-terms_with-u)).few, row_words (m (d (goal.at.magnitudes_of-magnitudes-requires c).After-terms_with-u)) (chk (d (goal.at.magnitudes_of-magnitudes-requires c).After-terms_with-u)).sized (low-terms (goal.at.magnitudes_of-magnitudes-requires c).After-terms_with-u).n_is (rows (d (goal.at.magnitudes_of-magnitudes-requires c).After-terms_with-u)))
 
 pub words_of-low-requires : goal.words_of-low-requires
 words_of-low-requires c =
@@ -144,10 +144,10 @@ module _ (c : After-next_ends) where
   new-high = c.next_ends.new.high
 
   low-made : EndFilled end.low (N l) (Z l) new-low
-  low-made = law.new_z (now l) (m (d (t l))) (rows (d (t l))) (k l) l.loop-k.below l.loop-k.above (at l).at_low_y (at l).at_high_y end.low (low-terms (t l)) (low-terms (t l)).n-is c.next_ends.ensures.lowest
+  low-made = law.new_z (now l) (m (d (t l))) (rows (d (t l))) (k l) l.loop-k.below l.loop-k.above (at l).at_low_y (at l).at_high_y end.low (low-terms (t l)) (low-terms (t l)).n_is c.next_ends.ensures.lowest
 
   high-made : EndFilled end.high (N l) (Z l) new-high
-  high-made = law.new_z (now l) (m (d (t l))) (rows (d (t l))) (k l) l.loop-k.below l.loop-k.above (at l).at_low_y (at l).at_high_y end.high (high-terms (t l)) (low-terms (t l)).n-is c.next_ends.ensures.highest
+  high-made = law.new_z (now l) (m (d (t l))) (rows (d (t l))) (k l) l.loop-k.below l.loop-k.above (at l).at_low_y (at l).at_high_y end.high (high-terms (t l)) (low-terms (t l)).n_is c.next_ends.ensures.highest
 
 -- both ends after it
 module _ (c : After-store_z) where

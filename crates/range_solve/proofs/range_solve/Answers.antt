@@ -37,7 +37,7 @@ module _ (e : After-high-1) where
   c = (goal.at.After-high-1 e).After-carried_after-r
 
   abbrev a : Start
-  a = start c.before
+  a = start (goal.at.After-high-1 e).After-matrix-m
 
   abbrev n : ℕ
   n = length a.args.answer.now / 8
