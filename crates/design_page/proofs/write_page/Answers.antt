@@ -57,7 +57,10 @@ pub returns-then-number-ne0 : goal.returns-then-number-ne0
 returns-then-number-ne0 c =
     let r = c.read_design-t in
     let s = c.args in
-    (refused_page s.sheet.now _ _ _ r.ensures (length s.page.now) c.if-number-ne0.true, unwritten _ _ _ c.if-number-ne0.true)
+    record {
+      number = refused_page s.sheet.now _ _ _ r.ensures (length s.page.now) c.if-number-ne0.true;
+      bytes = unwritten _ _ _ c.if-number-ne0.true;
+    }
 
 pub overflow_sub-count : goal.overflow_sub-count
 overflow_sub-count c = omega (arith, count_is (sheet c) _ _ _ (t c).read_design-t.ensures (zero c))
@@ -65,7 +68,7 @@ overflow_sub-count c = omega (arith, count_is (sheet c) _ _ _ (t c).read_design-
 pub returns-then-page-count : goal.returns-then-page-count
 returns-then-page-count c =
     let d = c in
-    (refused_room (sheet (goal.at.returns-then-page-count c).Else-number-ne0) _ _ _ (t (goal.at.returns-then-page-count c).Else-number-ne0).read_design-t.ensures (zero (goal.at.returns-then-page-count c).Else-number-ne0) (room (goal.at.returns-then-page-count c).Else-number-ne0) c.if-page-count.true, refl)
+    record { number = refused_room (sheet (goal.at.returns-then-page-count c).Else-number-ne0) _ _ _ (t (goal.at.returns-then-page-count c).Else-number-ne0).read_design-t.ensures (zero (goal.at.returns-then-page-count c).Else-number-ne0) (room (goal.at.returns-then-page-count c).Else-number-ne0) c.if-page-count.true; bytes = refl }
 
 pub slice_bounds-words-end : goal.slice_bounds-words-end
 slice_bounds-words-end c =
@@ -93,7 +96,10 @@ returns-in-Sized c =
     let k = c in
     let d = passed (h (goal.at.returns-in-Sized c).In-Sized) in
     let w : c.put_numbers.new.page ≡ lines_page (z (goal.at.returns-in-Sized c).In-Sized) (sheet d) = c.put_numbers.ensures in
-    (accepted_page (sheet d) _ _ _ (t d).read_design-t.ensures (zero d) (room d) (exact (h (goal.at.returns-in-Sized c).In-Sized)), w ∙ sym (page_sized (sheet d) (z (goal.at.returns-in-Sized c).In-Sized) (sizes (goal.at.returns-in-Sized c).In-Sized)))
+    record {
+      number = accepted_page (sheet d) _ _ _ (t d).read_design-t.ensures (zero d) (room d) (exact (h (goal.at.returns-in-Sized c).In-Sized));
+      bytes = w ∙ sym (page_sized (sheet d) (z (goal.at.returns-in-Sized c).In-Sized) (sizes (goal.at.returns-in-Sized c).In-Sized));
+    }
 
 pub returns-in-Unsized : goal.returns-in-Unsized
 returns-in-Unsized c =

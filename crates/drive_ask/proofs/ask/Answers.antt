@@ -49,19 +49,16 @@ returns-then-number-eq0 c =
     let n = t.ask_number-number in
     let e = eq-eqb n.result 0 t.if-number-eq0.true in
     let w = c.held_solve.ensures in
-    let paid = c.charge.ensures in (
-      n.ensures,
-      (
-        rw e w,
-        (
-          rw e (c.keep.ensures ∙ ap₂ (λ (x y : List ℕ). put_answer x a.head y) paid w),
-          λ _. subst (Guarantee (held_image d) a.state.now a.target.now (held_start d a.head)) (sym w) (guaranteed (held_image d) a.state.now a.target.now (held_start d a.head) (passes (goal.at.returns-then-number-eq0 c).Then-number-eq0).solves (passes (goal.at.returns-then-number-eq0 c).Then-number-eq0).dominant),
-        ),
-      ),
-    )
+    let paid = c.charge.ensures in
+    record {
+      number = n.ensures;
+      answer = rw e w;
+      drive = rw e (c.keep.ensures ∙ ap₂ (λ (x y : List ℕ). put_answer x a.head y) paid w);
+      guarantee = λ _. subst (Guarantee (held_image d) a.state.now a.target.now (held_start d a.head)) (sym w) (guaranteed (held_image d) a.state.now a.target.now (held_start d a.head) (passes (goal.at.returns-then-number-eq0 c).Then-number-eq0).solves (passes (goal.at.returns-then-number-eq0 c).Then-number-eq0).dominant);
+    }
 
 pub returns-else-number-eq0 : goal.returns-else-number-eq0
 returns-else-number-eq0 c =
     let k = c.ask_number-number in
     let e = ne_eqb k.result 0 c.if-number-eq0.false in
-    (k.ensures, (rw e, (rw e, λ z. absurd (c.if-number-eq0.false z))))
+    record { number = k.ensures; answer = rw e; drive = rw e; guarantee = λ z. absurd (c.if-number-eq0.false z) }

@@ -16,7 +16,7 @@ put_image-requires c =
 pub returns-then-number-eq0 : goal.returns-then-number-eq0
 returns-then-number-eq0 c =
     let n = c.new_number-number in
-    (n.ensures, rw (eq-eqb n.result 0 c.if-number-eq0.true) c.put_image.ensures)
+    record { number = n.ensures; drive = rw (eq-eqb n.result 0 c.if-number-eq0.true) c.put_image.ensures }
 
 pub returns-else-number-eq0 : goal.returns-else-number-eq0
-returns-else-number-eq0 c = (c.new_number-number.ensures, rw (ne_eqb c.new_number-number.result 0 c.if-number-eq0.false))
+returns-else-number-eq0 c = record { number = c.new_number-number.ensures; drive = rw (ne_eqb c.new_number-number.result 0 c.if-number-eq0.false) }

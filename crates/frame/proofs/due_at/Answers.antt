@@ -2,7 +2,6 @@
 use native.Mathlib.Omega.{arith}
 use mathlib.Core.Path.{◌∙◌}
 use Prim.Native.Nat.{◌≤◌}
-use borrow.Author.Rules.{rules}
 use Rattle.frame.proofs.Laws.{due_2, due_3, due_4, due_5, due_6, due_7, due_8, due_9, some_columns}
 use Rattle.frame.proofs.due_at.Goals.{Then-i-n-5}
 use Rattle.frame.proofs.due_at.Goals as goal

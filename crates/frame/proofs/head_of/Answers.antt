@@ -1,4 +1,3 @@
-use borrow.Author.Rules.{rules}
 use Rattle.frame.specs.Frame.{head_of}
 use Rattle.frame.proofs.Laws.{head_kind, head_sized, head_tail, head_unsound}
 use Rattle.frame.proofs.Numbers.{head_told}

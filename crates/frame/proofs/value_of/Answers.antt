@@ -1,6 +1,5 @@
 use mathlib.Core.Path.{ap}
 use borrow.Author.Tests.{eq-eqb, ne_eqb}
-use borrow.Author.Rules.{rules}
 use Rattle.frame.specs.declared.Value.TheVariants.{Double}
 use Rattle.frame.proofs.Numbers.{value_told}
 use Rattle.frame.proofs.value_of.Goals as goal

@@ -3,7 +3,6 @@ use borrow.Author.Tests.{eq-eqb, ne_eqb}
 use Rattle.double.specs.Double.{convert, converted_number, rule_of}
 use Rattle.double.specs.declared.Converted.{Converted}
 use Rattle.double.specs.declared.Rounding.{Rounding}
-use borrow.Author.Rules.{rules}
 use Rattle.frame.specs.Frame.{not_below_zero, rounding_of, word_number, word_of}
 use Rattle.frame.proofs.Numbers.{word_told}
 use Rattle.frame.proofs.word_of.Goals.{After-to_word-c, Start}

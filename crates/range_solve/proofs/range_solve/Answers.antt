@@ -116,7 +116,7 @@ put_words-requires-2 c =
     let r = c in
     let s = (a (goal.at.put_words-requires-2 c).After-high-1).args in
     let out = s.answer.now in
-    (rw (high_taken (goal.at.put_words-requires-2 c).After-high-1) (simp (length-take, length-drop, length-append) (omega (arith, c.put_words.auto.0, length-take-le (4 * (length out / 8)) out (omega arith)))), subst Words (sym (high-are (goal.at.put_words-requires-2 c).After-high-1)) (carried_words s.image.now s.ranges.now s.target.now s.start.now (a (goal.at.put_words-requires-2 c).After-high-1).requires.0 end.high))
+    (rw (high_taken (goal.at.put_words-requires-2 c).After-high-1) (simp (length-take, length-drop, length-append) (omega (arith, c.put_words.auto.out, length-take-le (4 * (length out / 8)) out (omega arith)))), subst Words (sym (high-are (goal.at.put_words-requires-2 c).After-high-1)) (carried_words s.image.now s.ranges.now s.target.now s.start.now (a (goal.at.put_words-requires-2 c).After-high-1).requires.0 end.high))
 
 pub returns : goal.returns
 unfolding range_answer intervals_out
@@ -124,6 +124,6 @@ returns c =
     let r = c in
     let a = (a (goal.at.returns c).After-high-1).args.answer.now in
     let x = c.put_words in
-    let n : length x.new.out ≡ 4 * (length a / 8) = x.auto.0 ∙ length-take-le (4 * (length a / 8)) a (omega arith) in
+    let n : length x.new.out ≡ 4 * (length a / 8) = x.auto.out ∙ length-take-le (4 * (length a / 8)) a (omega arith) in
     behind x.new.out c.put_words-2.new.out (drop (4 * (length a / 8)) a) (4 * (length a / 8)) (length (x.new.out ++ drop (4 * (length a / 8)) a) - 4 * (length a / 8)) n (omega (arith, length-append x.new.out (drop (4 * (length a / 8)) a)))
     ∙ (cc (x.ensures, c.put_words-2.ensures, low-are (goal.at.returns c).After-high-1, high-are (goal.at.returns c).After-high-1))
