@@ -152,6 +152,7 @@ fn not_below_zero(c: Converted) -> Converted
 }
 
 // The word of a value of a kind.
+#[tactic(auto, unfolding(crate::specs::Frame::word_of))]
 pub fn word_of(z: Sizes, kind: usize, x: f64) -> Converted
     ensures { (result ≡ word_of z kind x) × (converted_number result ≡ word_number z kind x) }
 {
