@@ -241,8 +241,7 @@ module _ (s : Solver) (k : ℕ) (d : Device) (cs : List Call) where
   affords_ask : (state target : List ℕ) (room : ℕ) → stays_by s k d (ask k state target room) (step s x (ask k state target room)).number l ≡ true → ask_checks s x k state target room ≡ 0 → s.sweeps x.image ≤ (head_at x k).own
   unfolding step call_number ask_checks
   affords_ask state target room q z =
-      let cost = s.sweeps x.image in
-      let r = past_checks (ask_checks s x k state target room) (leb cost ((head_at x k).own + x.common)) z in
+      let r : reaches (call_number s x (ask k state target room)) ≡ true = past_checks _ _ z in
       let own = ap (λ (h : Head). h.own) (logged_head s d cs k (index_inside (head_count x) k _ z)) in
       rw (logged_image s d cs, own) (leb-true _ _ (rw (eq-eqb k k refl, r) at q))
 

@@ -25,6 +25,7 @@ use Rattle.drive.specs.Layout.{image_room, head_room, length_place, image_place,
 use Rattle.drive.specs.Calls.{imaged, blank_drive, make_drive, put_owns, period_drive}
 use Rattle.drive.specs.Held.{head_of, zero_start}
 use Rattle.drive.specs.Parts.{Counted}
+use Rattle.drive.proofs.Cleared.{front}
 use Rattle.drive.proofs.Writes as writes
 use Rattle.drive.proofs.Writes.{Write, write, puts, Fits, clear, aside, puts_length, puts_beside, puts_there, puts_nat}
 use Rattle.drive.proofs.OneHead.{SamePart, same_image, same_head}
@@ -47,10 +48,6 @@ image_fits image e = let w = (accepted image e).whole in omega (arith, w.size, w
 module _ (d image : List ℕ) (size : length d ≡ drive_length) (e : image_number image ≡ 0) where
   image_small : length image ≤ image_room
   image_small = image_fits image e
-
-  -- so far zeros are written first
-  abbrev front : ℕ
-  front = count_place
 
   zeros_long : length (zeros front) ≡ front
   zeros_long = length-replicate {A = ℕ} front 0

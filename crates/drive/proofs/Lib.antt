@@ -5,6 +5,7 @@ pub mod Next
 pub mod Writes
 pub mod OneHead
 pub mod Held
+pub mod Cleared
 pub mod AllHeads
 pub mod Step
 pub mod Run
