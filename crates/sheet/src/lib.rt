@@ -125,8 +125,7 @@ fn take_next(words: &mut [i64; 569], lows: &mut [f64; 16], p: Progress, l: Line)
     }
 }
 
-// Goes through a sheet line by line, until no line is due, with one reader. Its proof is a walk by hand, so all else
-// stands in take_next.
+// Goes through a sheet line by line, until no line is due, with one reader. All else stands in take_next.
 fn read_through(words: &mut [i64; 569], lows: &mut [f64; 16], s: &[u8], first: Progress) -> Progress
     requires { Read s.now first words.old lows.old × (first.taken ≡ 0) }
     ensures { (result.left ≡ 0) × Read s.now result words.new lows.new }

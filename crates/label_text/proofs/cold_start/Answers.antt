@@ -24,7 +24,7 @@ returns c =
     let k = c.gantry_cold_start in
     let rest = drop (4 * a.args.n) d.blank_words-start.result in
     let len : length k.new.start ≡ 4 * a.args.n = k.auto.start ∙ lent (goal.at.returns c).After-blank_words-start in
-    let z : k.result ≡ 0 = k.ensures.0 ∙ cold_passes image _ a.requires.0 (lent (goal.at.returns c).After-blank_words-start ∙ ap (λ (n : ℕ). 4 * n) a.requires.1.0) in (
+    let z : k.result ≡ 0 = k.ensures.number ∙ cold_passes image _ a.requires.0 (lent (goal.at.returns c).After-blank_words-start ∙ ap (λ (n : ℕ). 4 * n) a.requires.1.0) in (
       omega (arith, length-append k.new.start rest, length-drop (4 * a.args.n) d.blank_words-start.result, d.blank_words-start.ensures),
-      take_at k.new.start rest (4 * a.args.n) len ∙ (rw (eq-eqb k.result 0 z) at k.ensures.1),
+      take_at k.new.start rest (4 * a.args.n) len ∙ (rw (eq-eqb k.result 0 z) at k.ensures.bytes),
     )

@@ -100,18 +100,18 @@ module _ (c : After-gantry_solve-number) where
   unused = drop (answer_length (z g)) t.blank_text-answer.result
 
   formed : form_number (sizes_of (image g)) (image g) (state g) (target g) ≡ 0
-  formed = form-is (e t).before ∙ (e t).if-fault-ne0.false
+  formed = form-is (goal.at.After-gantry_solve-number c).After-form_number-fault ∙ (e t).if-fault-ne0.false
 
   number : c.gantry_solve-number.result
       ≡ solve_number (image g) (file_words (sizes_of (image g)).nx (state g)) (file_words (sizes_of (image g)).nr (target g)) (cold_answer (image g)) (answer_length (sizes_of (image g)))
   number =
-      (rw (t.before.before.before.file_words-x.ensures.1, t.before.before.file_words-r.ensures.1, t.before.cold_start-start.ensures.1, answer-long t) at c.gantry_solve-number.ensures.0)
+      (rw (t.file_words-x.ensures.1, t.file_words-r.ensures.1, t.cold_start-start.ensures.1, answer-long t) at c.gantry_solve-number.ensures.number)
       ∙ ap (λ (s : Sizes). solve_number (image g) (file_words s.nx (state g)) (file_words s.nr (target g)) (cold_answer (image g)) (answer_length s)) g.sizes_of-z.ensures
 
   same_answer : solve_answer (image g) (take (4 * (z g).nx) (x t)) (take (4 * (z g).nr) (r t)) (take (4 * count g) (cold t))
       ≡ solve_answer (image g) (file_words (sizes_of (image g)).nx (state g)) (file_words (sizes_of (image g)).nr (target g)) (cold_answer (image g))
   same_answer =
-      rw (t.before.before.before.file_words-x.ensures.1, t.before.before.file_words-r.ensures.1, t.before.cold_start-start.ensures.1)
+      rw (t.file_words-x.ensures.1, t.file_words-r.ensures.1, t.cold_start-start.ensures.1)
       (ap (λ (s : Sizes). solve_answer (image g) (file_words s.nx (state g)) (file_words s.nr (target g)) (cold_answer (image g))) g.sizes_of-z.ensures)
 
   answer-room : length out ≡ answer_length (z g)
@@ -209,7 +209,7 @@ returns c =
     let d = g (goal.at.returns c).After-gantry_solve-number in
     let zero = c.if-number-ne0.false in
     let e : lines (count d) (take (answer_length (z d)) (out (goal.at.returns c).After-gantry_solve-number ++ unused (goal.at.returns c).After-gantry_solve-number)) (count d) ≡ image_text (image d) (state d) (target d) =
-    ap (λ (answer : List ℕ). lines (count d) answer (count d)) (front (goal.at.returns c).After-gantry_solve-number ∙ (rw (eq-eqb k.gantry_solve-number.result 0 zero) at k.gantry_solve-number.ensures.1.0) ∙ same_answer (goal.at.returns c).After-gantry_solve-number)
+    ap (λ (answer : List ℕ). lines (count d) answer (count d)) (front (goal.at.returns c).After-gantry_solve-number ∙ (rw (eq-eqb k.gantry_solve-number.result 0 zero) at k.gantry_solve-number.ensures.bytes) ∙ same_answer (goal.at.returns c).After-gantry_solve-number)
     ∙ ap (λ (n : ℕ). lines n (solve_answer (image d) (file_words (sizes_of (image d)).nx (state d)) (file_words (sizes_of (image d)).nr (target d)) (cold_answer (image d))) n) (ap command_count d.sizes_of-z.ensures)
     ∙ answered (image d) (state d) (target d) k.gantry_solve-number.result (formed (goal.at.returns c).After-gantry_solve-number) (number (goal.at.returns c).After-gantry_solve-number) zero in
     subst (λ (text : List ℕ). Holds text c.lines_of.result) e c.lines_of.ensures

@@ -27,8 +27,8 @@ returns c =
     let unused = drop (4 * r.result.count) d.blank_image-image.result in
     let len : length k.new.image ≡ 4 * r.result.count = k.auto.image ∙ lent (goal.at.returns c).After-blank_image-image in
     record {
-      number_is = k.ensures.0 ∙ ap (intake_number s) (lent (goal.at.returns c).After-blank_image-image) ∙ own_length s r.result.number r.result.count r.new.words r.ensures;
+      number_is = k.ensures.number ∙ ap (intake_number s) (lent (goal.at.returns c).After-blank_image-image) ∙ own_length s r.result.number r.result.count r.new.words r.ensures;
       size = omega (arith, length-append k.new.image unused, length-drop (4 * r.result.count) d.blank_image-image.result, d.blank_image-image.ensures, r.ensures.count_high);
       room = omega (arith, r.ensures.count_high);
-      image_is = λ z. take_at k.new.image unused (4 * r.result.count) len ∙ (rw (eq-eqb k.result 0 z) at k.ensures.1);
+      image_is = λ z. take_at k.new.image unused (4 * r.result.count) len ∙ (rw (eq-eqb k.result 0 z) at k.ensures.bytes);
     }

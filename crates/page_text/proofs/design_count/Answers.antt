@@ -13,14 +13,12 @@ head-is c = ap head_of (sym c.line_at.ensures.0) ∙ sym c.head_of.ensures.0
 
 pub body_count-requires : goal.body_count-requires
 body_count-requires c =
-    let z = c.z.given in
-    head_sound (line_at c.args.drive.now 0) z.0.0 (head-is (goal.at.body_count-requires c).After-head_of ∙ z.1)
+    head_sound (line_at c.args.drive.now 0) c.in-Sized.z (head-is (goal.at.body_count-requires c).After-head_of ∙ c.in-Sized.is)
 
 pub returns-in-Sized : goal.returns-in-Sized
 unfolding design_count
 returns-in-Sized c =
-    let z = c.z.given in
-    c.body_count.ensures ∙ sym (total_is z.0.0) ∙ sym (ap head_count (head-is (goal.at.returns-in-Sized c).After-head_of ∙ z.1))
+    c.body_count.ensures ∙ sym (total_is c.in-Sized.z) ∙ sym (ap head_count (head-is (goal.at.returns-in-Sized c).After-head_of ∙ c.in-Sized.is))
 
 pub returns-in-Unsized : goal.returns-in-Unsized
 unfolding design_count

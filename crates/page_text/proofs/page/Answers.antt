@@ -26,7 +26,7 @@ module _ (c : After-design_count-length) where
 number_is : (c : After-gantry_page-number) → c.gantry_page-number.result ≡ page_number c.args.drive.now (44 * design_count c.args.drive.now)
 number_is c =
     let d = c in
-    c.gantry_page-number.ensures.0 ∙ ap (page_number d.args.drive.now) (lent (goal.at.After-gantry_page-number c).After-design_count-length ∙ ap (λ (k : ℕ). 44 * k) d.design_count-length.ensures)
+    c.gantry_page-number.ensures.number ∙ ap (page_number d.args.drive.now) (lent (goal.at.After-gantry_page-number c).After-design_count-length ∙ ap (λ (k : ℕ). 44 * k) d.design_count-length.ensures)
 
 pub overflow_mul-length : goal.overflow_mul-length
 overflow_mul-length c = omega (arith, few c)
@@ -37,9 +37,6 @@ slice_bounds-gantry_page-end c = room c
 pub slice_bounds-gantry_page-end-2 : goal.slice_bounds-gantry_page-end-2
 slice_bounds-gantry_page-end-2 c = sym (lent (goal.at.slice_bounds-gantry_page-end-2 c).After-design_count-length)
 
-pub put_refusal-requires : goal.put_refusal-requires
-put_refusal-requires c = search rules
-
 pub returns-then-number-ne0 : goal.returns-then-number-ne0
 returns-then-number-ne0 c =
     let p = c in
@@ -47,7 +44,7 @@ returns-then-number-ne0 c =
     let n = g.gantry_page-number.result in (
       omega arith,
       ap (take 11) p.put_refusal.ensures
-          ∙ front_refusal _ n (put_refusal-requires p.before g.lifetimes.1)
+          ∙ front_refusal _ n (omega arith)
           ∙ refused g.args.drive.now n (number_is (goal.at.returns-then-number-ne0 c).After-gantry_page-number) p.if-number-ne0.true,
     )
 
@@ -60,6 +57,6 @@ returns c =
     let zero = c.if-number-ne0.false in (
       few (goal.at.returns c).After-design_count-length,
       take_at g.gantry_page-number.new.page (drop n s) n (g.gantry_page-number.auto.page ∙ lent (goal.at.returns c).After-design_count-length)
-          ∙ (rw (eq-eqb g.gantry_page-number.result 0 zero) at g.gantry_page-number.ensures.1)
+          ∙ (rw (eq-eqb g.gantry_page-number.result 0 zero) at g.gantry_page-number.ensures.bytes)
           ∙ accepted d.args.drive.now g.gantry_page-number.result (number_is (goal.at.returns c).After-gantry_page-number) zero,
     )

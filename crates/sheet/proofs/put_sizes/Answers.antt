@@ -6,7 +6,6 @@ use mir.Val.{to_z}
 use native.Mathlib.Omega.{arith}
 use mir.Syntax.{w64}
 use mir.Facts.{to_z_pos}
-use borrow.Author.Rules.{rules}
 use Rattle.lines.specs.Lines.{size_words}
 use Rattle.sheet.proofs.put_sizes.Goals as goal
 

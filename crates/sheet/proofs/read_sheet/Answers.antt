@@ -1,7 +1,6 @@
 use native.Mathlib.Omega.{arith}
 use mathlib.Core.Path.{◌≡◌, refl}
 use Prim.Native.Nat.{◌≤◌}
-use borrow.Author.Rules.{rules}
 use Rattle.sheet.specs.declared.Progress.{Progress}
 use Rattle.sheet.proofs.Through.{answer_all, answer_fault, answer_long, high, unread}
 use Rattle.sheet.proofs.read_sheet.Goals.{After-read_through-p}

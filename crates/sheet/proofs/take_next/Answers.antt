@@ -2,7 +2,6 @@ use native.Mathlib.Omega.{arith}
 use mathlib.Core.Path.{◌≡◌, refl, sym, ap, ◌∙◌}
 use mathlib.Core.List.{List}
 use Prim.Native.Nat.{ℕ, ◌-◌, ◌+◌, ◌*◌, ◌<◌}
-use borrow.Author.Rules.{rules}
 use Rattle.line.specs.Line.{line_at}
 use Rattle.sheet.proofs.Through.{few, next_fault, next_word, read_before, room, sized, stopped_at}
 use Rattle.sheet.proofs.take_next.Goals.{After-take_line-fault, Start}
