@@ -5,7 +5,6 @@ use lib.Signed.{nat_abs-le}
 use Rattle.integer.proofs.Machine.{back}
 use Rattle.word.specs.Word.{word_at}
 use Rattle.word.proofs.Buffer.{rest_from}
-use borrow.Author.Rules.{rules}
 use Rattle.dominance.proofs.cost_at.Goals as goal
 
 pub returns : goal.returns

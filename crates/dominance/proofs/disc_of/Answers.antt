@@ -14,7 +14,6 @@ use Rattle.word.proofs.Buffer.{rest_from}
 use Rattle.image.specs.Sizes.{command_count}
 use Rattle.image.specs.Layout.{cost_row, cost_at}
 use Rattle.interface.specs.Tables.{others_of, others_at, margin_at, total_at}
-use borrow.Author.Rules.{rules}
 use Rattle.dominance.proofs.disc_of.Goals.{After-others-radius, Start}
 use Rattle.dominance.proofs.disc_of.Goals as goal
 

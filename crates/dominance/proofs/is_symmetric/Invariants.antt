@@ -1,15 +1,9 @@
-use native.Mathlib.Omega.{arith}
-use native.Mathlib.Numerals.{add-one}
-use mathlib.Core.Path.{◌≡◌, refl, sym, subst, ◌∙◌}
-use mathlib.Core.Bool.{Bool, true}
+use mathlib.Core.Path.{◌≡◌}
+use mathlib.Core.Bool.{true}
 use Prim.Native.Nat.{ℕ, ◌-◌, ◌≤◌}
-use borrow.Author.Tests.{not-true, not-false}
-use Rattle.integer.proofs.Machine.{back}
 use Rattle.gradient.specs.Index.{all_to}
-use Rattle.gradient.proofs.Tests.{all_fails}
-use Rattle.image.specs.Sizes.{command_count}
 use Rattle.image.specs.Layout.{cost_at}
-use Rattle.interface.specs.Tables.{eq_z, symmetry_test}
+use Rattle.interface.specs.Tables.{eq_z}
 use Rattle.dominance.proofs.is_symmetric.Given as goal
 
 abbrev pub invariant-loop-j : goal.invariant-loop-j

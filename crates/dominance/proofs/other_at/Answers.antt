@@ -5,7 +5,6 @@ use lib.IntN.{nat_abs}
 use lib.Signed.{nat_abs-le}
 use borrow.Author.Tests.{eq-eqb, ne_eqb}
 use Rattle.integer.proofs.Machine.{back}
-use borrow.Author.Rules.{rules}
 use Rattle.dominance.proofs.other_at.Goals as goal
 
 pub returns-then-i-j : goal.returns-then-i-j

@@ -1,7 +1,6 @@
 use native.Mathlib.Omega.{arith}
 use native.Mathlib.Numerals.{add-one}
 use mathlib.Core.Path.{◌≡◌, ap, ◌∙◌}
-use Prim.Native.Nat.{◌*◌, ◌^◌, ◌-◌, ◌≤◌}
 use Rattle.interface.specs.Tables.{others_of}
 use Rattle.dominance.proofs.others.Goals as goal
 

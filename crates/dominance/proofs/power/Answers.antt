@@ -2,7 +2,6 @@ use native.Mathlib.Omega.{arith}
 use mathlib.Core.Path.{refl}
 use lib.Pow.{pow_mono}
 use Rattle.integer.proofs.Machine.{shl_to_z}
-use borrow.Author.Rules.{rules}
 use Rattle.dominance.proofs.power.Goals as goal
 
 pub returns : goal.returns

@@ -4,7 +4,6 @@ use Rattle.word.proofs.Buffer.{rest_from}
 use Rattle.gradient.specs.Index.{sum_n}
 use Rattle.row_sums.specs.Terms.{term_at, term_row, term_count}
 use Rattle.row_sums.specs.declared.Term.TheVariants.{GainRange}
-use borrow.Author.Rules.{rules}
 use Rattle.headroom.proofs.gain_range.Goals as goal
 
 pub sum_terms-requires : goal.sum_terms-requires

@@ -4,7 +4,6 @@ use Rattle.word.specs.Format.{top}
 use Rattle.gradient.specs.Bounds.{range_p}
 use Rattle.image.specs.Layout.{problem_at, command_at}
 use Rattle.interface.specs.Tables.{range_test}
-use borrow.Author.Rules.{rules}
 use Rattle.headroom.proofs.range_passes.Goals as goal
 
 pub returns-then-range_p-most : goal.returns-then-range_p-most

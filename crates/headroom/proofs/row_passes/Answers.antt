@@ -17,7 +17,6 @@ use Rattle.interface.specs.Tables.{row_test}
 use Rattle.row_sums.specs.Terms.{term_at, term_row, term_count}
 use Rattle.row_sums.specs.declared.Term.TheVariants.{Range, GainRange}
 use Rattle.row_sums.proofs.Rows.{range_terms, gain_terms}
-use borrow.Author.Rules.{rules}
 use Rattle.headroom.proofs.row_passes.Goals.{After-smaller-b, After-sum_terms-a, Start}
 use Rattle.headroom.proofs.row_passes.Goals as goal
 

@@ -7,7 +7,6 @@ use Rattle.integer.proofs.Machine.{one_shl}
 use Rattle.word.specs.Format.{top}
 use Rattle.word.proofs.Format.{top_high}
 use Rattle.image.specs.declared.Sizes.{Sizes}
-use borrow.Author.Rules.{rules}
 use Rattle.headroom.proofs.sum_cap.Goals.{After-top_word}
 use Rattle.headroom.proofs.sum_cap.Goals as goal
 

@@ -6,7 +6,6 @@ use mir.Val.{to_z, of_z}
 use Rattle.integer.proofs.Machine.{back}
 use Rattle.word.specs.Format.{top}
 use Rattle.word.proofs.Format.{top_high}
-use borrow.Author.Rules.{rules}
 use Rattle.headroom.proofs.top_word.Goals.{After-top_of}
 use Rattle.headroom.proofs.top_word.Goals as goal
 

@@ -1,4 +1,3 @@
-use borrow.Author.Rules.{rules}
 use Rattle.loading.proofs.Tables.{with_linear}
 use Rattle.loading.proofs.command_terms.Goals as goal
 

@@ -1,6 +1,6 @@
 use native.Mathlib.Omega.{arith}
 use mathlib.Core.Path.{◌≡◌, ◌∙◌}
-use Prim.Native.Nat.{ℕ, ◌-◌}
+use Prim.Native.Nat.{ℕ}
 use lib.IntN.{ℤ, pos, ◌+ℤ◌}
 use mir.Syntax.{w64}
 use mir.Val.{SFits}
@@ -11,10 +11,9 @@ use Rattle.image.specs.declared.Input.TheVariants.{State, Target}
 use Rattle.image.specs.Sizes.{command_count}
 use Rattle.image.specs.Layout.{gain_row}
 use Rattle.dot.specs.Sums.{input_term}
-use Rattle.array.proofs.Filling.{Filling, none, more, full}
+use Rattle.array.proofs.Filling.{none, more, full}
 use Rattle.loading.specs.Tables.{exact_at}
 use Rattle.loading.proofs.Tables.{LinearOf, linear_of}
-use borrow.Author.Rules.{rules}
 use Rattle.loading.proofs.exact_terms.Goals.{After-gain_sum-in-loop-i, After-words_of-x, After-words_of-y, In-loop-i, Start}
 use Rattle.loading.proofs.exact_terms.Goals as goal
 

@@ -10,7 +10,6 @@ use Rattle.image.proofs.Sized.{input_most}
 use Rattle.array.specs.Arrays.{WordsTo}
 use Rattle.gradient.specs.Index.{sum_z}
 use Rattle.dot.specs.Sums.{input_term}
-use borrow.Author.Rules.{rules}
 use Rattle.loading.proofs.gain_sum.Goals as goal
 
 pub row_sum-requires : goal.row_sum-requires

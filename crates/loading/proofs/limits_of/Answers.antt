@@ -1,11 +1,10 @@
 use native.Mathlib.Omega.{arith}
 use mathlib.Core.Path.{◌≡◌, ◌∙◌}
-use Prim.Native.Nat.{◌-◌}
 use lib.IntN.{pos}
 use Rattle.integer.proofs.Machine.{back}
 use Rattle.image.specs.Sizes.{command_count}
 use Rattle.image.specs.Layout.{lower_at, upper_at}
-use Rattle.array.proofs.Filling.{Filling, none, more, full}
+use Rattle.array.proofs.Filling.{none, more, full}
 use Rattle.loading.proofs.limits_of.Goals as goal
 
 pub overflow_mul-n : goal.overflow_mul-n

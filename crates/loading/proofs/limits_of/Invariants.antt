@@ -1,11 +1,8 @@
-use native.Mathlib.Omega.{arith}
-use mathlib.Core.Path.{◌≡◌, ◌∙◌}
+use mathlib.Core.Path.{◌≡◌}
 use Prim.Native.Nat.{◌-◌}
 use lib.IntN.{pos}
-use Rattle.integer.proofs.Machine.{back}
-use Rattle.image.specs.Sizes.{command_count}
 use Rattle.image.specs.Layout.{lower_at, upper_at}
-use Rattle.array.proofs.Filling.{Filling, none, more, full}
+use Rattle.array.proofs.Filling.{Filling}
 use Rattle.loading.proofs.limits_of.Given as goal
 
 abbrev pub invariant-loop-i : goal.invariant-loop-i

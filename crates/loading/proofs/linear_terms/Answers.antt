@@ -1,15 +1,14 @@
 use native.Mathlib.Omega.{arith}
 use mathlib.Core.Path.{◌≡◌, ap, ◌∙◌}
-use Prim.Native.Nat.{ℕ, ◌-◌, ◌^◌}
+use Prim.Native.Nat.{ℕ, ◌^◌}
 use lib.IntN.{ℤ, pos}
 use lib.ListN.{get_or}
 use Rattle.integer.specs.Round.{floor}
 use Rattle.integer.proofs.Machine.{back}
 use Rattle.image.specs.Sizes.{command_count}
-use Rattle.array.proofs.Filling.{Filling, none, more, full}
+use Rattle.array.proofs.Filling.{none, more, full}
 use Rattle.loading.specs.Tables.{linear_at}
 use Rattle.loading.proofs.Tables.{linear_divided}
-use borrow.Author.Rules.{rules}
 use Rattle.loading.proofs.linear_terms.Goals.{After-exact_terms-g, In-loop-i, Start}
 use Rattle.loading.proofs.linear_terms.Goals as goal
 

@@ -1,15 +1,8 @@
-use native.Mathlib.Omega.{arith}
-use mathlib.Core.Path.{◌≡◌, ap, ◌∙◌}
-use Prim.Native.Nat.{ℕ, ◌-◌, ◌^◌}
-use lib.IntN.{ℤ, pos}
-use lib.ListN.{get_or}
-use Rattle.integer.specs.Round.{floor}
-use Rattle.integer.proofs.Machine.{back}
-use Rattle.image.specs.Sizes.{command_count}
-use Rattle.array.proofs.Filling.{Filling, none, more, full}
+use mathlib.Core.Path.{◌≡◌}
+use Prim.Native.Nat.{◌-◌}
+use lib.IntN.{pos}
+use Rattle.array.proofs.Filling.{Filling}
 use Rattle.loading.specs.Tables.{linear_at}
-use Rattle.loading.proofs.Tables.{linear_divided}
-use borrow.Author.Rules.{rules}
 use Rattle.loading.proofs.linear_terms.Given as goal
 
 abbrev pub invariant-loop-i : goal.invariant-loop-i

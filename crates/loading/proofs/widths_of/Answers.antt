@@ -1,8 +1,7 @@
 use native.Mathlib.Omega.{arith}
 use mathlib.Core.Path.{◌≡◌}
-use Prim.Native.Nat.{◌-◌}
 use Rattle.image.specs.Sizes.{command_count}
-use Rattle.array.proofs.Filling.{Filling, none, more, full}
+use Rattle.array.proofs.Filling.{none, more, full}
 use Rattle.loading.specs.Tables.{width_at}
 use Rattle.loading.proofs.widths_of.Goals as goal
 

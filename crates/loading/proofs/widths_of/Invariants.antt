@@ -1,8 +1,6 @@
-use native.Mathlib.Omega.{arith}
 use mathlib.Core.Path.{◌≡◌}
 use Prim.Native.Nat.{◌-◌}
-use Rattle.image.specs.Sizes.{command_count}
-use Rattle.array.proofs.Filling.{Filling, none, more, full}
+use Rattle.array.proofs.Filling.{Filling}
 use Rattle.loading.specs.Tables.{width_at}
 use Rattle.loading.proofs.widths_of.Given as goal
 

@@ -1,12 +1,6 @@
-use native.Mathlib.Omega.{arith}
-use mathlib.Core.Path.{◌≡◌, sym, ap, ◌∙◌}
-use Prim.Native.Nat.{◌+◌, ◌-◌, ◌≤◌}
-use mir.Syntax.{w64}
-use mir.Val.{to_z, of_z}
-use Rattle.integer.proofs.Machine.{back}
-use Rattle.image.specs.Sizes.{command_count}
-use Rattle.interface.specs.Tables.{least_to, largest_to, margin_at, total_at, least_margin, largest_total}
-use Rattle.momentum.proofs.Least.{least_next, largest_next}
+use mathlib.Core.Path.{◌≡◌}
+use Prim.Native.Nat.{◌-◌, ◌≤◌}
+use Rattle.interface.specs.Tables.{least_to, largest_to, margin_at, total_at}
 use Rattle.momentum.proofs.extremes_of.Given as goal
 
 abbrev pub invariant-loop-i : goal.invariant-loop-i

@@ -11,7 +11,6 @@ use Rattle.integer.proofs.Machine.{back}
 use Rattle.image.specs.Layout.{momentum_at}
 use Rattle.interface.specs.Tables.{momentum_range}
 use Rattle.momentum.proofs.Ratio.{lt_less}
-use borrow.Author.Rules.{rules}
 use Rattle.momentum.proofs.is_momentum.Goals.{After-momentum_at-m}
 use Rattle.momentum.proofs.is_momentum.Goals as goal
 

@@ -8,7 +8,6 @@ use Rattle.integer.proofs.Laws.{abs_add, abs_sub}
 use Rattle.integer.proofs.Machine.{back, sfits_abs}
 use Rattle.interface.specs.Tables.{momentum_ratio}
 use Rattle.momentum.proofs.Ratio.{momentum_most, least_most, largest_most}
-use borrow.Author.Rules.{rules}
 use Rattle.momentum.proofs.momentum_passes.Goals.{After-momentum_at-m, Start}
 use Rattle.momentum.proofs.momentum_passes.Goals as goal
 

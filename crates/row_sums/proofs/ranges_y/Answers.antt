@@ -1,11 +1,5 @@
 use native.Mathlib.Omega.{arith}
-use mathlib.Core.Path.{◌≡◌}
-use mathlib.Core.List.{List}
-use Prim.Native.Nat.{ℕ, ◌-◌}
-use Rattle.array.proofs.Filling.{Filling, none, more, full}
-use Rattle.gradient.specs.Bounds.{range_y}
-use Rattle.image.specs.declared.Sizes.{Sizes}
-use Rattle.image.specs.Layout.{command_at, problem_at}
+use Rattle.array.proofs.Filling.{none, more, full}
 use Rattle.row_sums.proofs.ranges_y.Invariants.{range, Is}
 use Rattle.row_sums.proofs.ranges_y.Goals as goal
 

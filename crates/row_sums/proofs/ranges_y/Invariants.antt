@@ -1,8 +1,7 @@
-use native.Mathlib.Omega.{arith}
 use mathlib.Core.Path.{◌≡◌}
 use mathlib.Core.List.{List}
 use Prim.Native.Nat.{ℕ, ◌-◌}
-use Rattle.array.proofs.Filling.{Filling, none, more, full}
+use Rattle.array.proofs.Filling.{Filling}
 use Rattle.gradient.specs.Bounds.{range_y}
 use Rattle.image.specs.declared.Sizes.{Sizes}
 use Rattle.image.specs.Layout.{command_at, problem_at}

@@ -1,8 +1,7 @@
 -- No turn leaves 64 bits, though the sum itself may. Assumes nothing.
 use native.Mathlib.Omega.{arith}
 use mathlib.Core.Path.{◌≡◌, ◌∙◌}
-use Prim.Native.Nat.{◌-◌, ◌≤◌, ◌<◌, min}
-use Rattle.gradient.specs.Index.{sum_n}
+use Prim.Native.Nat.{◌<◌}
 use Rattle.gradient.proofs.Capped.{capped_next}
 use Rattle.row_sums.specs.Terms.{term_at}
 use Rattle.row_sums.proofs.Rows.{count_most}

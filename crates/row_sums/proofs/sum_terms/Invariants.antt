@@ -1,10 +1,7 @@
-use native.Mathlib.Omega.{arith}
-use mathlib.Core.Path.{◌≡◌, ◌∙◌}
-use Prim.Native.Nat.{◌-◌, ◌≤◌, ◌<◌, min}
+use mathlib.Core.Path.{◌≡◌}
+use Prim.Native.Nat.{◌-◌, ◌≤◌, min}
 use Rattle.gradient.specs.Index.{sum_n}
-use Rattle.gradient.proofs.Capped.{capped_next}
 use Rattle.row_sums.specs.Terms.{term_at}
-use Rattle.row_sums.proofs.Rows.{count_most}
 use Rattle.row_sums.proofs.sum_terms.Given as goal
 
 abbrev pub invariant-loop-j : goal.invariant-loop-j

@@ -12,7 +12,6 @@ use Rattle.row_sums.specs.Terms.{term_at, term_row, term_count, TermsReady}
 use Rattle.row_sums.specs.declared.Term.{Term}
 use Rattle.row_sums.specs.declared.Term.TheVariants.{Range, GainRange}
 use Rattle.row_sums.proofs.Rows.{term_end, range_most}
-use borrow.Author.Rules.{rules}
 use Rattle.row_sums.proofs.term_at.Goals.{In-GainRange, In-Range, Start}
 use Rattle.row_sums.proofs.term_at.Goals as goal
 
