@@ -23,6 +23,7 @@ fn matrix_row(row: &[u8], i: usize, n: usize, b: u32) -> [i64; 16]
 }
 
 // M: n rows of n words.
+#[inline(never)]
 pub fn matrix(image: &[u8], z: Sizes) -> [[i64; 16]; 16]
     requires { Whole z image.now }
     ensures { Tabled (pos 0) (command_count z) (entry_at z image.now) result }
@@ -54,6 +55,7 @@ pub fn magnitude_row(row: &[i64; 16], n: usize) -> [u64; 16]
 }
 
 // |M|, which the error bounds take: made once, and not anew in each iteration.
+#[inline(never)]
 pub fn magnitudes_of(m: &[[i64; 16]; 16], n: usize) -> [[u64; 16]; 16]
     requires { (n ≤ 16) × RowsTo n m.now }
     ensures { Tabled 0 n (λ i j. nat_abs (get_or (get_or m.now i []) j (pos 0))) result }

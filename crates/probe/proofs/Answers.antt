@@ -25,24 +25,24 @@ use Rattle.double.specs.declared.LimitWords.TheVariants.{Pair, NoPair}
 use Rattle.double.specs.declared.DoubleAnswer.{DoubleAnswer}
 
 -- ---- an accepted word
-pub accepted-fits : (rule : ℤ → ℕ → ℤ) (b w : ℕ) (x : Float) → accepted rule b w x ≡ true → SFits w32 (rounded rule b x)
+pub accepted_fits : (rule : ℤ → ℕ → ℤ) (b w : ℕ) (x : Float) → accepted rule b w x ≡ true → SFits w32 (rounded rule b x)
 unfolding accepted
-accepted-fits rule b w x e =
+accepted_fits rule b w x e =
     let t = both (is_format b w && scalable b x) (in_word w (rounded rule b x)) e in
     let f = format b w (both (is_format b w) (scalable b x) t.0).0 in
     sfits_abs (rounded rule b x) (in_word_abs w (rounded rule b x) t.1) (top_high w f.width_most)
 
 -- ---- a pair of limits
 pub record Accepted (b w : ℕ) (l : Limits) (low high : ℤ) : Type 0 where
-  pub both-accepted : accepted_limits b w l ≡ true
-  pub low-is : low ≡ rounded round_up b l.low
+  pub both_accepted : accepted_limits b w l ≡ true
+  pub low_is : low ≡ rounded round_up b l.low
   pub high_is : high ≡ rounded round_down b l.high
   pub low_fits : SFits w32 low
   pub high_fits : SFits w32 high
 
 module _ (b w : ℕ) (l : Limits) where
-  pub pair-accepted : {low high : ℤ} → convert_limits b w l ≡ Pair low high → Accepted b w l low high
-  pair-accepted {low} {high} = go (accepted_limits b w l) refl
+  pub pair_accepted : {low high : ℤ} → convert_limits b w l ≡ Pair low high → Accepted b w l low high
+  pair_accepted {low} {high} = go (accepted_limits b w l) refl
     where
       go : (t : Bool) → accepted_limits b w l ≡ t → cond t (Pair (rounded round_up b l.low) (rounded round_down b l.high)) NoPair ≡ Pair low high → Accepted b w l low high
       go true q e =
@@ -50,16 +50,16 @@ module _ (b w : ℕ) (l : Limits) where
           let i : low ≡ rounded round_up b l.low = cc in
           let j : high ≡ rounded round_down b l.high = cc in
           record {
-            both-accepted = q;
-            low-is = i;
+            both_accepted = q;
+            low_is = i;
             high_is = j;
-            low_fits = rw i (accepted-fits round_up b w l.low p.0);
-            high_fits = rw j (accepted-fits round_down b w l.high p.1);
+            low_fits = rw i (accepted_fits round_up b w l.low p.0);
+            high_fits = rw j (accepted_fits round_down b w l.high p.1);
           }
       go false q e = let z : ◌≡◌ {A = ℕ} 0 1 = cc in absurd (let n : ⊥ = omega arith in n)
 
-  pub none-accepted : convert_limits b w l ≡ NoPair → accepted_limits b w l ≡ false
-  none-accepted = go (accepted_limits b w l)
+  pub none_accepted : convert_limits b w l ≡ NoPair → accepted_limits b w l ≡ false
+  none_accepted = go (accepted_limits b w l)
     where
       go : (t : Bool) → cond t (Pair (rounded round_up b l.low) (rounded round_down b l.high)) NoPair ≡ NoPair → t ≡ false
       go true e = cc
@@ -82,29 +82,29 @@ unfolding words_out
 put_two out low high h =
     two out (word_bytes low) (word_bytes high) h (length_bytes 4 (of_z w32 low)) (length_bytes 4 (of_z w32 high)) ∙ ap (λ (r : List ℕ). word_bytes low ++ r) (sym (append-nil (word_bytes high)))
 
-pub put-pattern : (out : List ℕ) (n : ℕ) → length out ≡ 8 → put_at out 0 (pattern_bytes n) ≡ pattern_bytes n
-put-pattern out n h = put_whole out (pattern_bytes n) (h ∙ sym (length_bytes 8 n))
+pub put_pattern_lem : (out : List ℕ) (n : ℕ) → length out ≡ 8 → put_at out 0 (pattern_bytes n) ≡ pattern_bytes n
+put_pattern_lem out n h = put_whole out (pattern_bytes n) (h ∙ sym (length_bytes 8 n))
 
 -- ---- the double of a word is no NaN
-quotient-no-nan : (x : Float) (z : ℤ) (d : ℕ) → HasQuotient x z d → T (not (is_nan x))
+quotient_no_nan : (x : Float) (z : ℤ) (d : ℕ) → HasQuotient x z d → T (not (is_nan x))
 unfolding is_nan
-quotient-no-nan nan z d q = absurd q
-quotient-no-nan (inf s) z d q = absurd q
-quotient-no-nan (fin s m e) z d q = tt
+quotient_no_nan nan z d q = absurd q
+quotient_no_nan (inf s) z d q = absurd q
+quotient_no_nan (fin s m e) z d q = tt
 
-pub answer-no-nan : (b w : ℕ) (z : ℤ) (r : DoubleAnswer) → r ≡ double_answer b w z → (r.number ≡ 0 → HasQuotient r.value z (2 ^ b)) → T (not (is_nan r.value))
+pub answer_no_nan : (b w : ℕ) (z : ℤ) (r : DoubleAnswer) → r ≡ double_answer b w z → (r.number ≡ 0 → HasQuotient r.value z (2 ^ b)) → T (not (is_nan r.value))
 unfolding is_nan
-answer-no-nan b w z r e q = by (eqb (double_number b w z) 0) refl
+answer_no_nan b w z r e q = by (eqb (double_number b w z) 0) refl
   where
     by : (t : Bool) → eqb (double_number b w z) 0 ≡ t → T (not (is_nan r.value))
-    by true h = quotient-no-nan r.value z (2 ^ b) (q (ap (λ (s : DoubleAnswer). s.number) e ∙ eqb-true (double_number b w z) 0 h))
+    by true h = quotient_no_nan r.value z (2 ^ b) (q (ap (λ (s : DoubleAnswer). s.number) e ∙ eqb-true (double_number b w z) 0 h))
     by false h =
         let u : double_value b w z ≡ fin false 0 (pos 0) = rw h in
         subst (λ (x : Float). T (not (is_nan x))) (sym (ap (λ (s : DoubleAnswer). s.value) e ∙ u)) tt
 
 -- and its number is never 15
-pub answer-below : (b w : ℕ) (z : ℤ) → eqb (double_number b w z) 15 ≡ false
-answer-below b w z = by (is_format b w) (in_word w z)
+pub answer_below : (b w : ℕ) (z : ℤ) → eqb (double_number b w z) 15 ≡ false
+answer_below b w z = by (is_format b w) (in_word w z)
   where
     by : (s t : Bool) → eqb (cond s (cond t 0 5) 3) 15 ≡ false
     by true true = refl

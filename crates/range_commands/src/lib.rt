@@ -7,6 +7,7 @@ ghost use Rattle.range_commands.specs.Steps.{EndsReady, NewEnds};
 use commands::CommandTerms;
 
 // The lowest commands take the lowest sum of M y and the terms t, which hold the highest h; the highest commands take the highest sum and the terms u, which hold the lowest h.
+#[inline(never)]
 pub fn next_ends(
     m: &[[i64; 16]; 16],
     magnitudes: &[[u64; 16]; 16],

@@ -16,15 +16,16 @@ pub struct Carried {
 }
 
 // Both after a number of iterations: the lowest commands take the highest linear terms, and the new y of an end takes the old commands of the opposite end. Once an iteration changes neither end, none after it does.
+#[inline(never)]
 fn carried_after(
     image: &[u8],
     ranges: &[u8],
     target: &[u8],
     start: &[u8],
-    m: [[i64; 16]; 16],
+    m: &[[i64; 16]; 16],
     count: usize,
 ) -> Carried
-    requires { RangeSolvable image.now ranges.now target.now start.now × MatrixOf image.now m }
+    requires { RangeSolvable image.now ranges.now target.now start.now × MatrixOf image.now m.now }
     ensures { CarriedOf image.now ranges.now target.now start.now count result }
 {
     let s = image::sizes_of(image);
@@ -33,7 +34,7 @@ fn carried_after(
     let lowest = h.low;
     let t = loading::terms_with(image, s, highest);
     let u = loading::terms_with(image, s, lowest);
-    let magnitudes = matrix::magnitudes_of(&m, t.n);
+    let magnitudes = matrix::magnitudes_of(m, t.n);
     let mut low = array::words_of(start, t.n);
     let mut high = low;
     let mut below = low;
@@ -43,7 +44,7 @@ fn carried_after(
     let mut k = 0;
     while k < count {
         range_commands::next_ends(
-            &m,
+            m,
             &magnitudes,
             t,
             u,
@@ -71,7 +72,7 @@ pub fn range_solve(image: &[u8], ranges: &[u8], target: &[u8], start: &[u8], ans
     let s = image::sizes_of(image);
     let count = s.sweeps;
     let m = matrix::matrix(image, s);
-    let r = carried_after(image, ranges, target, start, m, count);
+    let r = carried_after(image, ranges, target, start, &m, count);
     let low = r.low;
     let high = r.high;
     let n = answer.len() / 8;

@@ -25,14 +25,14 @@ module _ {image : List ℕ} (ok : Accepted image) (k n : ℕ) (e : n ≡ command
   pub few : n ≤ 16
   few = omega (arith, ok.whole.sizes.n_high)
 
-  pub bounds-are : (r : List ℕ) → BoundsOf image k r → take n r ≡ bounds_after image k
+  pub bounds_are : (r : List ℕ) → BoundsOf image k r → take n r ≡ bounds_after image k
   unfolding bounds_after
-  bounds-are r at =
+  bounds_are r at =
       taken 0 r (bounds_after image k) n (omega (arith, few, at.sized)) (error_e_length (problem_of image) k ∙ count_is image ∙ sym e)
       (λ i h. at.each i (omega arith))
 
 module _ {image state target start : List ℕ} (ok : Solvable image state target start) (k n : ℕ) (e : n ≡ command_count (sizes_of image)) where
-  pub commands-are : (r : List ℤ) → CommandsOf image state target start k r → take n r ≡ commands_after image state target start k
-  commands-are r at =
+  pub commands_are : (r : List ℤ) → CommandsOf image state target start k r → take n r ≡ commands_after image state target start k
+  commands_are r at =
       taken (pos 0) r (commands_after image state target start k) n (omega (arith, few ok.accepted k n e, at.sized)) (z_length image state target start k ∙ sym e)
       (λ i h. at.each i (omega arith))

@@ -9,6 +9,7 @@ use image::Sizes;
 use row_tests::Test;
 
 // Checks 7, 17 and 8 to 12, in order.
+#[tactic(auto, using(interface::proofs::Extremes::margins_least, interface::proofs::Extremes::totals_largest), unfolding(interface::specs::Tables::tables_number, row_tests::specs::Tests::test_at))]
 pub fn tables_number(image: &[u8], z: Sizes) -> u32
     requires { Whole z image.now }
     ensures { result ≡ tables_number z image.now }

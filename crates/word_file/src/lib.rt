@@ -5,6 +5,7 @@ ghost use Rattle.std.specs.Prelude.{◌≡◌, ◌*◌, ◌≤◌, length, take}
 ghost use Rattle.word_file.specs.WordFile.{is_word_file, file_words};
 
 // Whether a file holds so many words.
+#[tactic(auto, unfolding(crate::specs::WordFile::is_word_file))]
 pub fn is_word_file(file: &[u8], count: usize) -> bool
     requires { count ≤ 12 }
     ensures { result ≡ is_word_file count file.now }

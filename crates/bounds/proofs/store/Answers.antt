@@ -2,12 +2,12 @@ use native.Mathlib.Omega.{arith}
 use lib.Pow.{pow_pos}
 use mathlib.Core.Path.{◌≡◌, refl}
 use mathlib.Core.Bool.{true}
-use Prim.Native.Nat.{ℕ, ◌+◌, ◌*◌, ◌-◌, ◌^◌, ◌≤◌, ◌<◌}
+use Prim.Native.Nat.{ℕ, ◌+◌, ◌*◌, ◌^◌, ◌≤◌, ◌<◌}
 use native.Mathlib.Nat.{le_trans, mul-le-mul}
 use lib.ListN.{get_or}
 use Rattle.integer.specs.Round.{ceil}
 use Rattle.integer.proofs.Floor.{ceil_most}
-use Rattle.array.proofs.Filling.{full, Storing, storing_none, storing_more}
+use Rattle.array.proofs.Filling.{full, storing_none, storing_more}
 use Rattle.bounds.specs.Steps.{q_at}
 use Rattle.bounds.proofs.store.Goals.{In-loop-i, Start}
 use Rattle.bounds.proofs.store.Goals as goal

@@ -1,13 +1,6 @@
-use native.Mathlib.Omega.{arith}
-use lib.Pow.{pow_pos}
-use mathlib.Core.Path.{◌≡◌, refl}
-use mathlib.Core.Bool.{true}
-use Prim.Native.Nat.{ℕ, ◌+◌, ◌*◌, ◌-◌, ◌^◌, ◌≤◌, ◌<◌}
-use native.Mathlib.Nat.{le_trans, mul-le-mul}
+use Prim.Native.Nat.{◌-◌}
 use lib.ListN.{get_or}
-use Rattle.integer.specs.Round.{ceil}
-use Rattle.integer.proofs.Floor.{ceil_most}
-use Rattle.array.proofs.Filling.{full, Storing, storing_none, storing_more}
+use Rattle.array.proofs.Filling.{Storing}
 use Rattle.bounds.specs.Steps.{q_at}
 use Rattle.bounds.proofs.store.Given as goal
 

@@ -9,7 +9,6 @@ use Rattle.integer.specs.Round.{floor, clamp}
 use Rattle.integer.proofs.Laws.{abs_sub}
 use Rattle.integer.proofs.Machine.{back, fit_abs}
 use Rattle.commands.proofs.Small.{divided_size}
-use borrow.Author.Rules.{rules}
 use Rattle.commands.proofs.command.Goals.{After-floor_div, Start}
 use Rattle.commands.proofs.command.Goals as goal
 

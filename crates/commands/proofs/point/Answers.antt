@@ -11,7 +11,6 @@ use Rattle.integer.proofs.Laws.{abs_sub}
 use Rattle.integer.proofs.Machine.{back, shl_to_z, fit_abs}
 use Rattle.commands.specs.Steps.{point_of}
 use Rattle.commands.proofs.Small.{factor_size, kept_size}
-use borrow.Author.Rules.{rules}
 use Rattle.commands.proofs.point.Goals.{After-floor_div-2, Start}
 use Rattle.commands.proofs.point.Goals as goal
 

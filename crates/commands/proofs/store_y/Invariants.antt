@@ -1,14 +1,8 @@
-use native.Mathlib.Omega.{arith}
-use mathlib.Core.Path.{◌≡◌, refl, ◌∙◌}
+use mathlib.Core.Path.{◌≡◌}
 use mathlib.Core.Bool.{true}
-use Prim.Native.Nat.{ℕ, ◌-◌, ◌^◌, ◌≤◌}
-use lib.ListN.{get_or}
-use lib.IntN.{ℤ, pos, nat_abs}
-use mir.Syntax.{w64}
-use mir.Val.{SFits}
-use mir.Facts.{to_z-of_z}
-use Rattle.integer.proofs.Machine.{back, fit_abs}
-use Rattle.array.proofs.Filling.{full, Replacing, replaced_none, replaced_more, stored_same}
+use Prim.Native.Nat.{◌-◌}
+use lib.IntN.{pos}
+use Rattle.array.proofs.Filling.{Replacing}
 use Rattle.commands.specs.Steps.{y_at}
 use Rattle.commands.proofs.store_y.Given as goal
 

@@ -8,7 +8,6 @@ use mir.Facts.{to_z-of_z}
 use Rattle.integer.proofs.Machine.{fit_abs}
 use Rattle.gradient.specs.Index.{product_at}
 use Rattle.gradient.proofs.Index.{sum_z_one}
-use borrow.Author.Rules.{rules}
 use Rattle.dot.proofs.product.Goals.{After-result-2-1, Start}
 use Rattle.dot.proofs.product.Goals as goal
 

@@ -1,11 +1,6 @@
-use native.Mathlib.Omega.{arith}
-use mathlib.Core.Path.{◌≡◌, refl, ap, ◌∙◌}
-use Prim.Native.Nat.{ℕ, ◌+◌, ◌-◌, ◌≤◌}
-use lib.IntN.{◌+ℤ◌}
-use mir.Syntax.{w64}
-use mir.Val.{to_z}
+use mathlib.Core.Path.{◌≡◌}
+use Prim.Native.Nat.{◌-◌, ◌≤◌}
 use Rattle.gradient.specs.Index.{sum_z, product_at}
-use Rattle.dot.proofs.Sums.{stored, IsSum, single, join, part}
 use Rattle.dot.proofs.rest.Given as goal
 
 abbrev pub invariant-loop-k : goal.invariant-loop-k

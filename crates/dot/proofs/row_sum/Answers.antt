@@ -7,7 +7,6 @@ use Rattle.integer.proofs.Machine.{back}
 use Rattle.gradient.specs.Index.{sum_z, product_at}
 use Rattle.gradient.proofs.Index.{sum_z_cong}
 use Rattle.dot.specs.Sums.{input_term}
-use borrow.Author.Rules.{rules}
 use Rattle.dot.proofs.row_sum.Goals.{After-words_of-r, Start}
 use Rattle.dot.proofs.row_sum.Goals as goal
 

@@ -1,13 +1,9 @@
 use mathlib.Core.Path.{◌≡◌, sym, ◌∙◌}
 use mathlib.Core.Bool.{true}
-use borrow.Author.Tests.{not-true, not-false}
 use Rattle.gradient.specs.Index.{all_to}
 use Rattle.image.specs.declared.Input.TheVariants.{State, Target}
 use Rattle.image.specs.Sizes.{body_count}
 use Rattle.image.specs.Checks.{word_test, limit_test, body_number}
-use borrow.Author.Rules.{rules}
-use Rattle.integrity.proofs.limits_pass.Reads as limits-pass-reads
-use Rattle.integrity.proofs.words_pass.Reads as words-pass-reads
 use Rattle.integrity.proofs.body_number.Goals.{After-limits_pass, After-limits_pass-2, Else-not-words_pass}
 use Rattle.integrity.proofs.body_number.Goals as goal
 

@@ -5,17 +5,12 @@ use mathlib.Core.Bool.{true, false}
 use Prim.Native.Nat.{ℕ, ◌+◌, ◌*◌}
 use lib.Dec.{eqb}
 use lib.ListN.{length}
-use borrow.Author.Tests.{le-leb, lt-leb, eq-eqb, ne_eqb, not-true, not-false}
+use borrow.Author.Tests.{le-leb, lt-leb, eq-eqb, ne_eqb}
 use Rattle.word.specs.Word.{nat_at}
 use Rattle.image.specs.Sizes.{sound, body_count}
 use Rattle.image.specs.Layout.{sizes_of}
 use Rattle.image.specs.Checks.{head_number}
 use Rattle.image.proofs.Sized.{sound_facts}
-use borrow.Author.Rules.{rules}
-use Rattle.word.proofs.nat_at.Reads as nat-at-reads
-use Rattle.image.proofs.body_count.Reads as body-count-reads
-use Rattle.image.proofs.is_sound.Reads as is-sound-reads
-use Rattle.image.proofs.sizes_of.Reads as sizes-of-reads
 use Rattle.integrity.proofs.head_number.Goals.{After-body_count, Else-nat_at-ne0, Else-not-is_sound}
 use Rattle.integrity.proofs.head_number.Goals as goal
 

@@ -37,7 +37,7 @@ pub returns-then-magnitude-gt1048576 : goal.returns-then-magnitude-gt1048576
 returns-then-magnitude-gt1048576 c =
     let a = c in
     let k = c.loop-k.k in
-    sym (all_fails (entry_test a.args.factors.now) a.args.count k (omega arith) (rw (← (size (goal.at.returns-then-magnitude-gt1048576 c).After-magnitude)) (lt-leb c.magnitude.result (2 ^ 20) c.if-magnitude-gt1048576.true)))
+    sym (all_fails (entry_test a.args.factors.now) a.args.count k (omega arith) (rw (← (size (goal.at.returns-then-magnitude-gt1048576 c).After-magnitude)) (lt-leb c.magnitude.result (2 ^ 20) (omega arith))))
 
 pub overflow_add-k-in-loop-k : goal.overflow_add-k-in-loop-k
 overflow_add-k-in-loop-k c = omega (arith, c.requires.1)
@@ -48,7 +48,7 @@ loop-k-smaller c = omega arith
 pub loop-k-preserved : goal.loop-k-preserved
 loop-k-preserved c =
     let l = c.loop-k in
-    (omega arith, rw (add-one l.k, l.invariant.1, ← (size (goal.at.loop-k-preserved c).After-magnitude)) (le-leb c.magnitude.result (2 ^ 20) c.if-magnitude-gt1048576.false))
+    (omega arith, rw (add-one l.k, l.invariant.1, ← (size (goal.at.loop-k-preserved c).After-magnitude)) (le-leb c.magnitude.result (2 ^ 20) (omega arith)))
 
 pub returns : goal.returns
 returns c =

@@ -6,7 +6,6 @@ use lib.IntN.{nat_abs}
 use Rattle.integer.proofs.Machine.{back}
 use Rattle.gradient.specs.Bounds.{magnitude}
 use Rattle.image.specs.Layout.{command_at, lower_at, upper_at}
-use borrow.Author.Rules.{rules}
 use Rattle.magnitudes.proofs.largest_limit.Goals.{After-size-high, Start}
 use Rattle.magnitudes.proofs.largest_limit.Goals as goal
 

@@ -9,7 +9,6 @@ use Rattle.integer.proofs.Machine.{back, sfits_abs}
 use Rattle.gradient.specs.Bounds.{width}
 use Rattle.image.specs.Layout.{command_at, upper_at}
 use Rattle.magnitudes.proofs.Bounds.{width_most}
-use borrow.Author.Rules.{rules}
 use Rattle.magnitudes.proofs.limit_width.Goals.{After-lower_at}
 use Rattle.magnitudes.proofs.limit_width.Goals as goal
 

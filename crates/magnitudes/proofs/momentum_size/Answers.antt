@@ -1,7 +1,6 @@
 use mathlib.Core.Path.{ap, ◌∙◌}
 use lib.IntN.{nat_abs}
 use Rattle.integer.proofs.Machine.{back}
-use borrow.Author.Rules.{rules}
 use Rattle.magnitudes.proofs.momentum_size.Goals as goal
 
 pub returns : goal.returns

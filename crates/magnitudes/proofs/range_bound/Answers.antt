@@ -3,7 +3,6 @@ use lib.Pow.{pow_pos}
 use native.Mathlib.Nat.{mul-le-mul}
 use Prim.Native.Nat.{◌*◌, ◌-◌, ◌^◌, ◌≤◌}
 use Rattle.integer.proofs.Floor.{ceil_most}
-use borrow.Author.Rules.{rules}
 use Rattle.magnitudes.proofs.range_bound.Goals.{After-largest_limit-l}
 use Rattle.magnitudes.proofs.range_bound.Goals as goal
 

@@ -1,7 +1,6 @@
 use Rattle.gradient.specs.Problem.{F}
 use Rattle.gradient.specs.Bounds.{range_y}
 use Rattle.image.specs.Layout.{problem_at}
-use borrow.Author.Rules.{rules}
 use Rattle.magnitudes.proofs.range_y.Goals as goal
 
 pub returns : goal.returns

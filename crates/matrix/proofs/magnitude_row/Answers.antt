@@ -1,14 +1,13 @@
 use native.Mathlib.Omega.{arith}
 use mathlib.Core.Path.{◌≡◌}
-use mathlib.Core.List.{List}
-use Prim.Native.Nat.{ℕ, ◌-◌, ◌^◌, ◌≤◌}
+use Prim.Native.Nat.{ℕ, ◌^◌, ◌≤◌}
 use lib.ListN.{get_or}
-use lib.IntN.{ℤ, pos, nat_abs}
+use lib.IntN.{pos}
 use mir.Syntax.{w64}
 use mir.Val.{SFits}
 use mir.Facts.{to_z-of_z}
 use Rattle.integer.proofs.Machine.{fit_abs}
-use Rattle.array.proofs.Filling.{Filling, none, more, full}
+use Rattle.array.proofs.Filling.{none, more, full}
 use Rattle.matrix.proofs.magnitude_row.Invariants.{magnitudeAt}
 use Rattle.matrix.proofs.magnitude_row.Goals.{In-loop-j, Start}
 use Rattle.matrix.proofs.magnitude_row.Goals as goal

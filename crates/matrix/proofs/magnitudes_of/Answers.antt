@@ -1,10 +1,6 @@
 use native.Mathlib.Omega.{arith}
-use mathlib.Core.List.{List, []}
-use Prim.Native.Nat.{ℕ, ◌-◌}
-use lib.ListN.{get_or}
-use lib.IntN.{ℤ, pos, nat_abs}
-use Rattle.array.specs.Arrays.{Filled}
-use Rattle.array.proofs.Filling.{Filling, none, more, all}
+use mathlib.Core.List.{[]}
+use Rattle.array.proofs.Filling.{none, more, all}
 use Rattle.matrix.proofs.magnitudes_of.Invariants.{MagnitudesOf}
 use Rattle.matrix.proofs.magnitudes_of.Goals as goal
 

@@ -1,10 +1,9 @@
-use native.Mathlib.Omega.{arith}
 use mathlib.Core.List.{List, []}
 use Prim.Native.Nat.{ℕ, ◌-◌}
 use lib.ListN.{get_or}
 use lib.IntN.{ℤ, pos, nat_abs}
 use Rattle.array.specs.Arrays.{Filled}
-use Rattle.array.proofs.Filling.{Filling, none, more, all}
+use Rattle.array.proofs.Filling.{Filling}
 use Rattle.matrix.proofs.magnitudes_of.Given as goal
 
 -- a row has the magnitudes of that of M

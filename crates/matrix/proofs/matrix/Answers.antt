@@ -1,15 +1,12 @@
 use native.Mathlib.Omega.{arith}
 use mathlib.Core.Path.{ap, ◌∙◌}
 use mathlib.Core.List.{List, []}
-use Prim.Native.Nat.{ℕ, ◌-◌}
+use Prim.Native.Nat.{ℕ}
 use lib.ListN.{length-take, length-drop}
-use lib.IntN.{ℤ, pos}
 use Rattle.word.proofs.Buffer.{rest_from}
-use Rattle.image.specs.declared.Sizes.{Sizes}
 use Rattle.image.specs.Sizes.{command_count}
-use Rattle.image.specs.Layout.{entry_of, entry_at}
-use Rattle.array.specs.Arrays.{Filled}
-use Rattle.array.proofs.Filling.{Filling, none, more, all}
+use Rattle.image.specs.Layout.{entry_of}
+use Rattle.array.proofs.Filling.{none, more, all}
 use Rattle.matrix.proofs.matrix.Invariants.{RowOf}
 use Rattle.matrix.proofs.matrix.Goals as goal
 

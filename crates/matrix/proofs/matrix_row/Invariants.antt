@@ -1,12 +1,8 @@
-use native.Mathlib.Omega.{arith}
-use mathlib.Core.Path.{◌≡◌, ◌∙◌}
+use mathlib.Core.Path.{◌≡◌}
 use Prim.Native.Nat.{◌-◌}
 use lib.IntN.{pos}
-use mir.Syntax.{w64}
-use mir.Val.{to_z, of_z}
-use Rattle.integer.proofs.Machine.{back}
 use Rattle.image.specs.Layout.{entry_of}
-use Rattle.array.proofs.Filling.{Filling, none, more, full}
+use Rattle.array.proofs.Filling.{Filling}
 use Rattle.matrix.proofs.matrix_row.Given as goal
 
 abbrev pub invariant-loop-j : goal.invariant-loop-j

@@ -15,7 +15,7 @@ use Rattle.word.specs.Word.{word_bytes}
 use Rattle.double.specs.Double.{convert_limits, rounded, round_up, round_down}
 use Rattle.double.specs.declared.Limits.{Limits}
 use Rattle.probe.specs.Probe.{limits_of, double_of}
-use Rattle.probe.proofs.Answers.{pair-accepted, none-accepted, put_two}
+use Rattle.probe.proofs.Answers.{pair_accepted, none_accepted, put_two}
 use Rattle.probe.proofs.probe_inward.Goals.{After-inward, Start}
 use Rattle.probe.proofs.probe_inward.Goals as goal
 
@@ -39,14 +39,14 @@ returns-then-out-ne8 c = record { number = rw (ne_eqb (length c.args.out.now) 8 
 pub put_word-requires : goal.put_word-requires
 put_word-requires c =
     let d = (goal.at.put_word-requires c).After-inward in
-    let k = pair-accepted c.args.b c.args.w (limits d) (sym (converted d) ∙ c.in-Pair.is) in
+    let k = pair_accepted c.args.b c.args.w (limits d) (sym (converted d) ∙ c.in-Pair.is) in
     let p : to_z w64 (of_z w64 c.in-Pair.low) ≡ c.in-Pair.low = search rules in
     (omega arith, rw p k.low_fits)
 
 pub put_word-requires-in-Pair : goal.put_word-requires-in-Pair
 put_word-requires-in-Pair c =
     let d = (goal.at.put_word-requires-in-Pair c).After-inward in
-    let k = pair-accepted c.args.b c.args.w (limits d) (sym (converted d) ∙ c.in-Pair.is) in
+    let k = pair_accepted c.args.b c.args.w (limits d) (sym (converted d) ∙ c.in-Pair.is) in
     let p : to_z w64 (of_z w64 c.in-Pair.high) ≡ c.in-Pair.high = search rules in
     (omega arith, rw p k.high_fits)
 
@@ -58,15 +58,15 @@ returns-in-Pair c =
     let low = c.in-Pair.low in
     let high = c.in-Pair.high in
     let len : length out ≡ 8 = c.if-out-ne8.false in
-    let k = pair-accepted b c.args.w (limits d) (sym (converted d) ∙ c.in-Pair.is) in
+    let k = pair_accepted b c.args.w (limits d) (sym (converted d) ∙ c.in-Pair.is) in
     let p : to_z w64 (of_z w64 low) ≡ low = search rules in
     let q : to_z w64 (of_z w64 high) ≡ high = search rules in record {
-      number = rw (eq-eqb (length out) 8 len, k.both-accepted);
+      number = rw (eq-eqb (length out) 8 len, k.both_accepted);
       bytes =
           c.put_word-in-Pair.ensures
           ∙ ap (λ (o : List ℕ). put_at o 4 (word_bytes (to_z w64 (of_z w64 high)))) c.put_word.ensures
           ∙ ap (λ (v : ℤ). put_at (put_at out 0 (word_bytes (to_z w64 (of_z w64 low)))) 4 (word_bytes v)) (q ∙ k.high_is)
-          ∙ ap (λ (v : ℤ). put_at (put_at out 0 (word_bytes v)) 4 (word_bytes (rounded round_down b (limits d).high))) (p ∙ k.low-is)
+          ∙ ap (λ (v : ℤ). put_at (put_at out 0 (word_bytes v)) 4 (word_bytes (rounded round_down b (limits d).high))) (p ∙ k.low_is)
           ∙ put_two out (rounded round_up b (limits d).low) (rounded round_down b (limits d).high) len;
     }
 
@@ -74,6 +74,6 @@ pub returns-in-NoPair : goal.returns-in-NoPair
 returns-in-NoPair c =
     let d = (goal.at.returns-in-NoPair c).After-inward in
     record {
-      number = rw (eq-eqb (length c.args.out.now) 8 c.if-out-ne8.false, none-accepted c.args.b c.args.w (limits d) (sym (converted d) ∙ c.in-NoPair.is));
+      number = rw (eq-eqb (length c.args.out.now) 8 c.if-out-ne8.false, none_accepted c.args.b c.args.w (limits d) (sym (converted d) ∙ c.in-NoPair.is));
       bytes = refl;
     }

@@ -8,7 +8,7 @@ use borrow.Author.Tests.{eq-eqb, ne_eqb}
 use Rattle.word.specs.Word.{pattern_bytes}
 use Rattle.double.specs.Double.{double_answer, HasQuotient}
 use Rattle.double.specs.declared.DoubleAnswer.{DoubleAnswer}
-use Rattle.probe.proofs.Answers.{put-pattern, answer-no-nan, answer-below}
+use Rattle.probe.proofs.Answers.{put_pattern_lem, answer_no_nan, answer_below}
 use Rattle.probe.proofs.probe_to_double.Goals.{After-to_double-a, Start}
 use Rattle.probe.proofs.probe_to_double.Goals as goal
 
@@ -28,7 +28,7 @@ returns-then-out-ne8 c = record { number = rw (ne_eqb (length c.args.out.now) 8 
 pub float_to_bits-a : goal.float_to_bits-a
 float_to_bits-a c =
     let d = (goal.at.float_to_bits-a c).After-to_double-a in
-    answer-no-nan c.args.b c.args.w c.args.value c.to_double-a.result (converted d) (exact d)
+    answer_no_nan c.args.b c.args.w c.args.value c.to_double-a.result (converted d) (exact d)
 
 pub returns : goal.returns
 returns c =
@@ -38,6 +38,6 @@ returns c =
       number = rw (eq-eqb (length a.out.now) 8 c.if-out-ne8.false) e;
       bytes =
           rw
-          (e, answer-below a.b a.w a.value)
-          (c.put_pattern.ensures ∙ put-pattern a.out.now (to_bits binary64 c.to_double-a.result.value) c.if-out-ne8.false ∙ ap (λ (r : DoubleAnswer). pattern_bytes (to_bits binary64 r.value)) (converted d));
+          (e, answer_below a.b a.w a.value)
+          (c.put_pattern.ensures ∙ put_pattern_lem a.out.now (to_bits binary64 c.to_double-a.result.value) c.if-out-ne8.false ∙ ap (λ (r : DoubleAnswer). pattern_bytes (to_bits binary64 r.value)) (converted d));
     }

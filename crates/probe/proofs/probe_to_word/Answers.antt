@@ -15,7 +15,7 @@ use Rattle.double.specs.Double.{rule_of, convert, rounded}
 use Rattle.double.specs.declared.Rounding.{Rounding}
 use Rattle.double.proofs.Convert.{convert_word, convert_refused}
 use Rattle.probe.specs.Probe.{rounding_of, double_of}
-use Rattle.probe.proofs.Answers.{accepted-fits, put_one}
+use Rattle.probe.proofs.Answers.{accepted_fits, put_one}
 use Rattle.probe.proofs.probe_to_word.Goals.{After-to_word, Start}
 use Rattle.probe.proofs.probe_to_word.Goals as goal
 
@@ -44,7 +44,7 @@ put_word-requires c =
     let d = (goal.at.put_word-requires c).After-to_word in
     let k = convert_word (rule d) c.args.b c.args.w (x d) (sym (converted d) ∙ c.in-Word.is) in
     let p : to_z w64 (of_z w64 c.in-Word.z) ≡ c.in-Word.z = search rules in
-    (omega arith, rw (p, k.1) (accepted-fits (rule d) c.args.b c.args.w (x d) k.0))
+    (omega arith, rw (p, k.1) (accepted_fits (rule d) c.args.b c.args.w (x d) k.0))
 
 pub returns-in-Word : goal.returns-in-Word
 returns-in-Word c =

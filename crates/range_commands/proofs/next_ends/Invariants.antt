@@ -1,22 +1,8 @@
-use native.Mathlib.Omega.{arith}
-use mathlib.Core.Path.{◌≡◌, refl, sym, ap, subst, ◌∙◌}
-use mathlib.Core.List.{List, []}
-use Prim.Native.Nat.{ℕ, ◌-◌, ◌^◌, ◌≤◌}
-use lib.ListN.{get_or}
-use lib.IntN.{ℤ, pos, nat_abs}
-use mir.Syntax.{w64}
-use mir.Val.{to_z, of_z}
-use mir.Facts.{to_z-of_z}
-use Rattle.integer.proofs.Machine.{back, fit_abs}
-use Rattle.array.proofs.Filling.{Filling, none, more, full}
-use Rattle.gradient.specs.Demand.{In64}
-use Rattle.gradient.specs.Index.{sum_z}
-use Rattle.array.specs.Arrays.{Filled}
-use Rattle.commands.specs.declared.CommandTerms.{CommandTerms}
-use Rattle.commands.specs.Steps.{unclamped_of, command_of, Fitting}
+use mathlib.Core.Path.{◌≡◌}
+use Prim.Native.Nat.{◌-◌}
+use lib.IntN.{pos}
+use Rattle.array.proofs.Filling.{Filling}
 use Rattle.ranges.specs.Interval as end
-use Rattle.range_sums.specs.Ends.{end_term, sum_at, width_at, EndsSmall}
-use Rattle.range_sums.proofs.Halves.{row_ready, low_is, high_is}
 use Rattle.range_commands.specs.Steps.{z_end}
 use Rattle.range_commands.proofs.next_ends.Given as goal
 

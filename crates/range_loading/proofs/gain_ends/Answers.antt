@@ -12,7 +12,6 @@ use Rattle.ranges.specs.Interval.{low, high}
 use Rattle.range_sums.specs.Ends.{EndsSmall}
 use Rattle.range_sums.proofs.Halves.{row_ready, low_is, high_is}
 use Rattle.range_loading.proofs.Tables.{terms_are, row_small}
-use borrow.Author.Rules.{rules}
 use Rattle.range_loading.proofs.gain_ends.Goals.{After-words_of-r, Start}
 use Rattle.range_loading.proofs.gain_ends.Goals as goal
 

@@ -1,24 +1,9 @@
-use native.Mathlib.Omega.{arith}
-use mathlib.Core.Path.{◌≡◌, refl, sym, ap, subst, ◌∙◌}
-use mathlib.Core.List.{List}
-use Prim.Native.Nat.{ℕ, ◌+◌, ◌-◌, ◌^◌, ◌≤◌, ◌<◌}
-use lib.IntN.{ℤ, pos, nat_abs, ◌+ℤ◌}
-use mir.Syntax.{w64}
-use mir.Val.{to_z, of_z, SFits}
-use mir.Facts.{to_z-of_z}
-use Rattle.integer.specs.Round.{floor}
-use Rattle.integer.proofs.Machine.{back, fit_abs}
-use Rattle.gradient.specs.Index.{sum_z}
-use Rattle.image.specs.declared.Input.TheVariants.{Target}
-use Rattle.image.specs.Sizes.{command_count}
-use Rattle.image.specs.Layout.{gain_row}
-use Rattle.array.proofs.Filling.{Filling, none, more, full}
-use Rattle.dot.specs.Sums.{input_term}
+use mathlib.Core.Path.{◌≡◌}
+use Prim.Native.Nat.{◌-◌}
+use lib.IntN.{pos}
+use Rattle.array.proofs.Filling.{Filling}
 use Rattle.ranges.specs.Interval as end
-use Rattle.range_sums.specs.Ends.{Ranged}
-use Rattle.range_loading.specs.Tables.{gain_term, linear_end}
-use Rattle.range_loading.proofs.Tables.{LowsHeld, HighsHeld, behind_lows, held_ranged, state_small, target_small, whole_small, linear_is}
-use borrow.Author.Rules.{rules}
+use Rattle.range_loading.specs.Tables.{linear_end}
 use Rattle.range_loading.proofs.linear_ends.Given as goal
 
 abbrev pub invariant-loop-i : goal.invariant-loop-i

@@ -43,7 +43,7 @@ module _ (c : After-sizes_of-s) where
   is_whole = subst (λ (z : Sizes). Whole z image) (sym c.sizes_of-s.ensures) start.requires.0.accepted.whole
 
   abbrev m : List (List ℤ)
-  m = start.args.m
+  m = start.args.m.now
 
   rows : HasRows (problem_of image) m
   rows = has_rows (sizes_of image) image refl m start.requires.1

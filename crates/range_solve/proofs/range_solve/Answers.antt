@@ -81,7 +81,7 @@ matrix-m-requires c =
     subst (λ (z : Sizes). Whole z a.args.image.now) (sym c.sizes_of-s.ensures) a.requires.0.accepted.whole
 
 pub carried_after-r-requires : goal.carried_after-r-requires
-carried_after-r-requires c = ((start c).requires.0, matrix-of c)
+carried_after-r-requires c = ((start (goal.at.carried_after-r-requires c).After-matrix-m).requires.0, matrix-of (goal.at.carried_after-r-requires c).After-matrix-m)
 
 pub slice_bounds-put_words-end-2 : goal.slice_bounds-put_words-end-2
 slice_bounds-put_words-end-2 c =

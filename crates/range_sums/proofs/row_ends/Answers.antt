@@ -10,7 +10,6 @@ use Rattle.integer.proofs.Laws.{abs_add, abs_sub}
 use Rattle.integer.proofs.Machine.{back, fit_abs}
 use Rattle.gradient.specs.Index.{sum_z, product_at}
 use Rattle.weight.specs.Sums.{weight_to}
-use borrow.Author.Rules.{rules}
 use Rattle.range_sums.proofs.row_ends.Goals.{After-weight-apart, Start}
 use Rattle.range_sums.proofs.row_ends.Goals as goal
 

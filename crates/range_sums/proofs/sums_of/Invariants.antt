@@ -1,14 +1,7 @@
-use native.Mathlib.Omega.{arith}
-use mathlib.Core.Path.{◌≡◌, refl}
-use Prim.Native.Nat.{ℕ, ◌-◌}
-use lib.ListN.{get_or}
-use lib.IntN.{ℤ, pos, ◌+ℤ◌}
-use mir.Syntax.{w64}
-use mir.Val.{SFits}
-use mir.Facts.{to_z-of_z}
-use Rattle.integer.proofs.Laws.{abs_add}
-use Rattle.integer.proofs.Machine.{fit_abs}
-use Rattle.array.proofs.Filling.{Filling, none, more, full}
+use mathlib.Core.Path.{◌≡◌}
+use Prim.Native.Nat.{◌-◌}
+use lib.IntN.{pos}
+use Rattle.array.proofs.Filling.{Filling}
 use Rattle.range_sums.specs.Ends.{sum_at}
 use Rattle.range_sums.proofs.sums_of.Given as goal
 

@@ -1,6 +1,6 @@
 use native.Mathlib.Omega.{arith}
 use mathlib.Core.Path.{◌≡◌}
-use Prim.Native.Nat.{ℕ, ◌-◌, ◌^◌, ◌<◌}
+use Prim.Native.Nat.{ℕ, ◌^◌, ◌<◌}
 use lib.ListN.{get_or}
 use lib.IntN.{ℤ, pos, nat_abs, ◌-ℤ◌}
 use mir.Syntax.{w64}
@@ -8,7 +8,7 @@ use mir.Val.{SFits}
 use mir.Facts.{to_z-of_z}
 use Rattle.integer.proofs.Laws.{abs_sub}
 use Rattle.integer.proofs.Machine.{fit_abs}
-use Rattle.array.proofs.Filling.{Filling, none, more, full}
+use Rattle.array.proofs.Filling.{none, more, full}
 use Rattle.range_sums.specs.Ends.{width_at}
 use Rattle.range_sums.proofs.widths_of.Goals.{In-loop-j, Start}
 use Rattle.range_sums.proofs.widths_of.Goals as goal

@@ -5,7 +5,6 @@ use lib.IntN.{ℤ, pos, nat_abs, ◌-ℤ◌, ◌*ℤ◌}
 use mir.Syntax.{w64}
 use mir.Val.{to_z, of_z, SFits}
 use mir.Facts.{to_z-of_z}
-use borrow.Author.Rules.{rules}
 use Rattle.integer.specs.Round.{clamp}
 use Rattle.integer.proofs.Laws.{abs_sub}
 use Rattle.integer.proofs.Machine.{back, shl_to_z, fit_abs}

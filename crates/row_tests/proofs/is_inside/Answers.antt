@@ -6,7 +6,6 @@ use mir.Val.{to_z, of_z}
 use mir.Facts.{to_z-of_z}
 use Rattle.integer.proofs.Machine.{back}
 use Rattle.image.specs.Layout.{lower_at}
-use borrow.Author.Rules.{rules}
 use Rattle.row_tests.proofs.is_inside.Goals.{After-lower_at}
 use Rattle.row_tests.proofs.is_inside.Goals as goal
 

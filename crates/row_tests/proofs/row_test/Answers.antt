@@ -1,7 +1,6 @@
 use Rattle.integer.proofs.Machine.{back}
 use Rattle.row_tests.specs.Tests.{test_at}
 use native.Mathlib.Omega.{arith}
-use borrow.Author.Rules.{rules}
 use Rattle.row_tests.proofs.row_test.Goals as goal
 
 pub is_inside-requires : goal.is_inside-requires

@@ -18,7 +18,7 @@ use Rattle.interface.proofs.Demand.{all_claims}
 use Rattle.interface.proofs.Guaranteed.{z_words}
 use Rattle.array.specs.Arrays.{Tabled}
 use Rattle.solve.specs.Reached.{MatrixOf, CommandsOf, BoundsOf}
-use Rattle.solve.proofs.Answers.{few, commands-are, bounds-are}
+use Rattle.solve.proofs.Answers.{few, commands_are, bounds_are}
 use Rattle.optimum.specs.Optimum.{optimum_bound}
 use Rattle.distance.specs.Tables.{Measurable}
 use borrow.Author.Rules.{rules}
@@ -71,10 +71,10 @@ module _ (c : After-bounds_after-e) where
   bounds_of = subst (λ (k : ℕ). BoundsOf a.args.image.now k e) sweeps-are c.bounds_after-e.ensures
 
   z-are : take (n known) z ≡ commands_after a.args.image.now a.args.state.now a.args.target.now a.args.start.now sweeps
-  z-are = commands-are a.requires.0.0 sweeps (n known) (n-is known) z commands-of
+  z-are = commands_are a.requires.0.0 sweeps (n known) (n-is known) z commands-of
 
   e-are : take (n known) e ≡ bounds_after a.args.image.now sweeps
-  e-are = bounds-are a.requires.0.0.accepted sweeps (n known) (n-is known) e bounds_of
+  e-are = bounds_are a.requires.0.0.accepted sweeps (n known) (n-is known) e bounds_of
 
   z-taken : length (take (n known) z) ≡ n known
   z-taken = length-take-le (n known) z (omega (arith, commands-of.sized, few-n known))

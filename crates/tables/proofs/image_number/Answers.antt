@@ -9,7 +9,6 @@ use Rattle.image.proofs.Ordering.{refused, onward}
 use Rattle.interface.specs.Tables.{tables_number, image_number}
 use Rattle.interface.proofs.Accept.{head_whole}
 use Rattle.interface.proofs.Accept.{whole_of}
-use borrow.Author.Rules.{rules}
 use Rattle.tables.proofs.image_number.Goals.{After-sizes_of-z, Else-head-ne0}
 use Rattle.tables.proofs.image_number.Goals as goal
 

@@ -1,7 +1,7 @@
 use native.Mathlib.Omega.{arith}
 use mathlib.Core.Path.{◌≡◌, ap, ◌∙◌}
-use Prim.Native.Nat.{ℕ, ◌+◌, ◌-◌, ◌^◌, ◌≤◌, ◌<◌}
-use Rattle.weight.specs.Sums.{term_at, weight_to}
+use Prim.Native.Nat.{ℕ, ◌+◌, ◌^◌, ◌<◌}
+use Rattle.weight.specs.Sums.{weight_to}
 use Rattle.weight.proofs.Sums.{next, weight_mono, part}
 use Rattle.weight.proofs.rest.Goals.{After-term-w, Start}
 use Rattle.weight.proofs.rest.Goals as goal

@@ -1,8 +1,6 @@
-use native.Mathlib.Omega.{arith}
-use mathlib.Core.Path.{◌≡◌, ap, ◌∙◌}
-use Prim.Native.Nat.{ℕ, ◌+◌, ◌-◌, ◌^◌, ◌≤◌, ◌<◌}
-use Rattle.weight.specs.Sums.{term_at, weight_to}
-use Rattle.weight.proofs.Sums.{next, weight_mono, part}
+use mathlib.Core.Path.{◌≡◌}
+use Prim.Native.Nat.{◌+◌, ◌-◌, ◌≤◌}
+use Rattle.weight.specs.Sums.{weight_to}
 use Rattle.weight.proofs.rest.Given as goal
 
 abbrev pub invariant-loop-k : goal.invariant-loop-k

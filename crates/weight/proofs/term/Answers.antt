@@ -1,9 +1,8 @@
 use native.Mathlib.Omega.{arith}
 use mathlib.Core.Path.{◌≡◌}
-use Prim.Native.Nat.{ℕ, ◌*◌, ◌^◌, ◌<◌}
+use Prim.Native.Nat.{◌*◌, ◌^◌, ◌<◌}
 use Rattle.weight.specs.Sums.{term_at}
 use Rattle.weight.proofs.Sums.{next}
-use borrow.Author.Rules.{rules}
 use Rattle.weight.proofs.term.Goals.{After-low-2, Start}
 use Rattle.weight.proofs.term.Goals as goal
 

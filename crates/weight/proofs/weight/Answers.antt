@@ -1,7 +1,7 @@
 -- The two sums together are that of the terms so far. Assumes nothing.
 use native.Mathlib.Omega.{arith}
 use mathlib.Core.Path.{◌≡◌, refl, ap, ◌∙◌}
-use Prim.Native.Nat.{ℕ, ◌+◌, ◌-◌, ◌^◌, ◌%◌, ◌≤◌, ◌<◌}
+use Prim.Native.Nat.{ℕ, ◌+◌, ◌^◌, ◌%◌, ◌≤◌, ◌<◌}
 use Rattle.weight.specs.Sums.{term_at, weight_to}
 use Rattle.weight.proofs.Sums.{weight_mono, part, four}
 use Rattle.weight.proofs.weight.Goals.{After-loop-j, After-rest, In-loop-j, Start}

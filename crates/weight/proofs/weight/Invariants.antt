@@ -1,8 +1,6 @@
-use native.Mathlib.Omega.{arith}
-use mathlib.Core.Path.{◌≡◌, refl, ap, ◌∙◌}
-use Prim.Native.Nat.{ℕ, ◌+◌, ◌-◌, ◌^◌, ◌%◌, ◌≤◌, ◌<◌}
-use Rattle.weight.specs.Sums.{term_at, weight_to}
-use Rattle.weight.proofs.Sums.{weight_mono, part, four}
+use mathlib.Core.Path.{◌≡◌}
+use Prim.Native.Nat.{◌+◌, ◌-◌, ◌%◌, ◌≤◌}
+use Rattle.weight.specs.Sums.{weight_to}
 use Rattle.weight.proofs.weight.Given as goal
 
 abbrev pub invariant-loop-j : goal.invariant-loop-j
