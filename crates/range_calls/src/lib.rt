@@ -14,6 +14,7 @@ use image::{Input, Sizes};
 use magnitudes::size;
 
 // Whether a low is not above its high, and neither is beyond the limit.
+#[tactic(auto, using(crate::proofs::Order::above, crate::proofs::Order::beyond))]
 fn range_within(low: i64, high: i64, limit: u64) -> bool
     requires { SFits w32 low × SFits w32 high }
     ensures { result ≡ interval_within (interval low high) limit }

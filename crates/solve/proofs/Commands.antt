@@ -124,8 +124,8 @@ module _ {p : Problem} {inputs start : List ℤ} (m : List (List ℤ)) {t : Comm
     sums i h = rw rep.n_is (row_runs i (omega (arith, rep.n_is)))
 
     -- ---- one more
-    module _ (new z' y' : List ℤ) {first same : Bool} (made : Filled (pos 0) t.n (z_at m t y) new)
-        (put-y : StoredY t.n t.b t.momentum new z y y' true first) (put-z : StoredZ t.n new z z' first same) where
+    module _ (new z' y' : List ℤ) {first before same : Bool} (made : Filled (pos 0) t.n (z_at m t y) new)
+        (put-y : StoredY t.n t.b t.momentum new z y y' true first) (put-z : StoredZ t.n new z z' before same) where
       z_is : (i : ℕ) → i < N → z_at m t y i ≡ next_z p inputs I.y (command p i)
       unfolding command_of unclamped_of next_z F
       z_is i h =
@@ -149,11 +149,11 @@ module _ {p : Problem} {inputs start : List ℤ} (m : List (List ℤ)) {t : Comm
       }
 
       -- the new iterates are the old ones where the arrays are, and then so is every later one
-      pub settled : same ≡ true → (n : ℕ) → k < n → iterate p inputs start n ≡ iterate p inputs start (suc k)
-      settled e n l = commands_settled p inputs start k unchanged n (omega arith) ∙ sym unchanged
+      pub settled : before ≡ first → same ≡ true → (n : ℕ) → k < n → iterate p inputs start n ≡ iterate p inputs start (suc k)
+      settled link e n l = commands_settled p inputs start k unchanged n (omega arith) ∙ sym unchanged
         where
           unchanged : iterate p inputs start (suc k) ≡ I
-          unchanged = same_iterate (same_held (pos 0) (z_length k) (z_length (suc k)) at.at_z reached.at_z (put-z.same e).1) (same_held (pos 0) (y_length k) (y_length (suc k)) at.at_y reached.at_y (put-y.same (put-z.same e).0).1)
+          unchanged = same_iterate (same_held (pos 0) (z_length k) (z_length (suc k)) at.at_z reached.at_z (put-z.same e).1) (same_held (pos 0) (y_length k) (y_length (suc k)) at.at_y reached.at_y (put-y.same (sym link ∙ (put-z.same e).0)).1)
 
 -- ---- on an image
 pub checked : {image state target start : List ℕ} → Solvable image state target start → Checked (problem_of image) (inputs_of (sizes_of image) state target) (start_of (sizes_of image) start)

@@ -136,7 +136,7 @@ returns-then-store_z c =
     let t = t (goal.at.returns-then-store_z c).After-store_z in
     let a = (start (d t)).args in
     held_after a.image.now a.state.now a.target.now a.start.now a.count (next (goal.at.returns-then-store_z c).After-store_z)
-    (settled (m t) (rows t) (rep t) (chk t) l.loop-k.k l.loop-k.z l.loop-k.y l.loop-k.invariant.1.0 (new (goal.at.returns-then-store_z c).After-store_z) _ _ (made (goal.at.returns-then-store_z c).After-store_z) (first (goal.at.returns-then-store_z c).After-store_z).store_y-same.ensures s.store_z.ensures c.if-store_z.true a.count (taken (goal.at.returns-then-store_z c).After-store_z))
+    (settled (m t) (rows t) (rep t) (chk t) l.loop-k.k l.loop-k.z l.loop-k.y l.loop-k.invariant.1.0 (new (goal.at.returns-then-store_z c).After-store_z) _ _ (made (goal.at.returns-then-store_z c).After-store_z) (first (goal.at.returns-then-store_z c).After-store_z).store_y-same.ensures s.store_z.ensures refl c.if-store_z.true a.count (taken (goal.at.returns-then-store_z c).After-store_z))
 
 pub overflow_add-k : goal.overflow_add-k
 overflow_add-k c = record { fits = omega (arith, (start (d (t (goal.at.overflow_add-k c).After-store_z))).ranges.count, taken (goal.at.overflow_add-k c).After-store_z) }
