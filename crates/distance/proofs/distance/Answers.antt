@@ -12,7 +12,6 @@ use Rattle.interface.proofs.Accept.{whole_of}
 use Rattle.optimum.specs.Optimum.{residual, optimum_bound}
 use Rattle.interface.proofs.Dominance.{margin_count}
 use Rattle.distance.proofs.Agree.{zs, loadable, image_ready, image_residual, residual_small}
-use borrow.Author.Rules.{rules}
 use Rattle.distance.proofs.distance.Goals.{After-margin, Start}
 use Rattle.distance.proofs.distance.Goals as goal
 

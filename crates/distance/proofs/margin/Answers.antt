@@ -7,7 +7,6 @@ use mir.Syntax.{w64}
 use mir.Val.{to_z, of_z}
 use Rattle.integer.proofs.Machine.{back}
 use Rattle.interface.proofs.Dominance.{natural}
-use borrow.Author.Rules.{rules}
 use Rattle.distance.proofs.margin.Goals.{After-struct_told-1}
 use Rattle.distance.proofs.margin.Goals as goal
 

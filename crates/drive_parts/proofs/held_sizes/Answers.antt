@@ -5,9 +5,6 @@ use Prim.Native.Nat.{ℕ, ◌≤◌}
 use lib.ListN.{length}
 use Rattle.image.specs.Layout.{sizes_of}
 use Rattle.drive.proofs.Parts.{image_part}
-use borrow.Author.Rules.{rules}
-use Rattle.drive_parts.proofs.image_end.Reads as image-end-reads
-use Rattle.image.proofs.sizes_of.Reads as sizes-of-reads
 use Rattle.drive_parts.proofs.held_sizes.Goals as goal
 
 pub sizes_of-requires : goal.sizes_of-requires

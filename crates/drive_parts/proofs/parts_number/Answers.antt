@@ -7,10 +7,6 @@ use Rattle.drive.specs.Layout.{drive_length}
 use Rattle.drive.specs.Calls.{parts_number}
 use Rattle.drive.proofs.Accept.{placed}
 use Rattle.drive.proofs.Parts.{image_part}
-use borrow.Author.Rules.{rules}
-use Rattle.drive_parts.proofs.image_end.Reads as image-end-reads
-use Rattle.drive_parts.proofs.place_number.Reads as place-number-reads
-use Rattle.integrity.proofs.head_number.Reads as head-number-reads
 use Rattle.drive_parts.proofs.parts_number.Goals.{Else-number-ne0, Start}
 use Rattle.drive_parts.proofs.parts_number.Goals as goal
 

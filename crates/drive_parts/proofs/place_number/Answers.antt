@@ -5,8 +5,6 @@ use borrow.Author.Tests.{eq-eqb, ne_eqb, lt-ltb, le-ltb}
 use Rattle.device.specs.Device.{most_heads}
 use Rattle.drive.specs.Layout.{drive_length, held_count}
 use Rattle.drive.specs.Calls.{place_number}
-use borrow.Author.Rules.{rules}
-use Rattle.word.proofs.nat_at.Reads as nat-at-reads
 use Rattle.drive_parts.proofs.place_number.Goals.{After-nat_at, Start}
 use Rattle.drive_parts.proofs.place_number.Goals as goal
 

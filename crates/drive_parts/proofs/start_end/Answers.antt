@@ -4,9 +4,6 @@ use Prim.Native.Nat.{ℕ, ◌+◌, ◌*◌, ◌≤◌}
 use Rattle.image.specs.declared.Sizes.{Sizes}
 use Rattle.image.specs.Sizes.{command_count}
 use Rattle.interface.proofs.Accept.{whole_of}
-use borrow.Author.Rules.{rules}
-use Rattle.drive.proofs.start_place.Reads as start-place-reads
-use Rattle.drive_parts.proofs.held_sizes.Reads as held-sizes-reads
 use Rattle.drive_parts.proofs.start_end.Goals.{After-held_sizes-z}
 use Rattle.drive_parts.proofs.start_end.Goals as goal
 

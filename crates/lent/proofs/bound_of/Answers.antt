@@ -1,6 +1,5 @@
 use Rattle.integer.proofs.Machine.{back}
 use Rattle.lent.specs.Lent.{bound_of}
-use borrow.Author.Rules.{rules}
 use Rattle.lent.proofs.bound_of.Goals as goal
 
 pub returns-in-Least : goal.returns-in-Least

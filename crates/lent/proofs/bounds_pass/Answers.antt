@@ -1,5 +1,5 @@
 use native.Mathlib.Omega.{arith}
-use mathlib.Core.Path.{◌≡◌, refl, ap, ◌∙◌}
+use mathlib.Core.Path.{◌≡◌, refl, ◌∙◌}
 use mathlib.Core.Bool.{Bool, true, false}
 use Prim.Native.Nat.{◌*◌, ◌^◌, ◌%◌}
 use lib.IntN.{ℤ, pos}
@@ -10,7 +10,6 @@ use Rattle.integer.proofs.Machine.{back, shl_to_z}
 use Rattle.integer.proofs.Tests.{lt_not_le, nlt_le}
 use Rattle.lent.specs.declared.Side.TheVariants.{Least, Most}
 use Rattle.lent.specs.Lent.{bound_of, bounds_test}
-use borrow.Author.Rules.{rules}
 use Rattle.lent.proofs.bounds_pass.Goals.{After-bound_of-u, After-struct_known-1, Start}
 use Rattle.lent.proofs.bounds_pass.Goals as goal
 

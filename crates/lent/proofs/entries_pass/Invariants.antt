@@ -1,15 +1,7 @@
-use native.Mathlib.Omega.{arith}
-use native.Mathlib.Numerals.{add-one}
-use mathlib.Core.Path.{◌≡◌, refl, sym, ap, subst, ◌∙◌}
+use mathlib.Core.Path.{◌≡◌}
 use mathlib.Core.Bool.{true}
-use Prim.Native.Nat.{ℕ, ◌+◌, ◌-◌, ◌*◌, ◌^◌, ◌≤◌}
-use lib.IntN.{nat_abs}
-use lib.Signed.{nat_abs-le}
-use borrow.Author.Tests.{le-leb, lt-leb}
-use Rattle.integer.proofs.Machine.{back}
-use Rattle.word.specs.Word.{word_at}
+use Prim.Native.Nat.{◌-◌, ◌≤◌}
 use Rattle.gradient.specs.Index.{all_to}
-use Rattle.gradient.proofs.Tests.{all_fails}
 use Rattle.lent.specs.Lent.{entry_test}
 use Rattle.lent.proofs.entries_pass.Given as goal
 

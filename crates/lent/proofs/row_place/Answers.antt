@@ -1,7 +1,6 @@
 use native.Mathlib.Omega.{arith}
 use Rattle.lent.specs.declared.Side.TheVariants.{Least, Most}
 use Rattle.lent.proofs.Places.{row_ends}
-use borrow.Author.Rules.{rules}
 use Rattle.lent.proofs.row_place.Goals as goal
 
 pub returns-in-Least : goal.returns-in-Least

@@ -1,17 +1,8 @@
-use native.Mathlib.Omega.{arith}
-use native.Mathlib.Nat.{zero-add}
-use mathlib.Core.Path.{◌≡◌, refl, ap, ◌∙◌}
-use Prim.Native.Nat.{ℕ, ◌+◌, ◌-◌, ◌*◌, ◌^◌, ◌≤◌}
-use lib.IntN.{ℤ, nat_abs, ◌+ℤ◌, ◌*ℤ◌}
-use mir.Syntax.{w64}
-use mir.Val.{SFits, to_z}
-use mir.Facts.{to_z-of_z}
-use Rattle.integer.proofs.Laws.{abs_add}
-use Rattle.integer.proofs.Machine.{back, sfits_abs}
+use mathlib.Core.Path.{◌≡◌}
+use Prim.Native.Nat.{◌-◌, ◌*◌, ◌^◌, ◌≤◌}
+use lib.IntN.{nat_abs}
 use Rattle.gradient.specs.Index.{sum_z}
-use Rattle.gradient.proofs.Index.{sum_z_next}
 use Rattle.lent.specs.Lent.{term_at}
-use Rattle.lent.proofs.Products.{term_small}
 use Rattle.lent.proofs.row_product.Given as goal
 
 abbrev pub invariant-loop-k : goal.invariant-loop-k

@@ -2,7 +2,6 @@ use native.Mathlib.Omega.{arith}
 use mathlib.Core.Path.{◌∙◌}
 use Rattle.integer.proofs.Machine.{back}
 use Rattle.lent.proofs.Products.{row_of, up_to_row, up_to_column}
-use borrow.Author.Rules.{rules}
 use Rattle.lent.proofs.self_product.Goals as goal
 
 pub row_product-requires : goal.row_product-requires

@@ -2,7 +2,6 @@ use native.Mathlib.Omega.{arith}
 use native.Mathlib.Nat.{mul-le-mul}
 use Prim.Native.Nat.{◌+◌, ◌*◌, ◌≤◌}
 use Rattle.lent.proofs.Places.{twice, triangle_most}
-use borrow.Author.Rules.{rules}
 use Rattle.lent.proofs.triangle.Goals as goal
 
 pub overflow_mul-result : goal.overflow_mul-result

@@ -6,12 +6,6 @@ use Rattle.integer.proofs.Clamping.{clamp_fits}
 use Rattle.integer.proofs.Machine.{back}
 use Rattle.image.specs.Layout.{lower_at, upper_at}
 use Rattle.drive.specs.Move.{moved_at}
-use borrow.Author.Rules.{rules}
-use Rattle.next_start.proofs.moved_from.Reads as moved-from-reads
-use Rattle.image.proofs.lower_at.Reads as lower-at-reads
-use Rattle.image.proofs.upper_at.Reads as upper-at-reads
-use Rattle.integer.proofs.clamp.Reads as clamp-reads
-use Rattle.word.proofs.word_at.Reads as word-at-reads
 use Rattle.next_start.proofs.moved_at.Goals as goal
 
 pub returns : goal.returns

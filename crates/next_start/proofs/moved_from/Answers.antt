@@ -2,7 +2,6 @@ use native.Mathlib.Omega.{arith}
 use Prim.Native.Nat.{◌+◌}
 use borrow.Author.Tests.{lt-ltb, le-ltb}
 use Rattle.image.specs.Sizes.{command_count}
-use borrow.Author.Rules.{rules}
 use Rattle.next_start.proofs.moved_from.Goals as goal
 
 pub returns-then-k-z : goal.returns-then-k-z

@@ -1,15 +1,7 @@
-use native.Mathlib.Omega.{arith}
-use native.Mathlib.Nat.{mul-le-mul}
-use native.Mathlib.Numerals.{add-one}
-use mathlib.Core.Path.{◌≡◌, sym, ap, subst, ◌∙◌}
-use mathlib.Core.List.{List, ◌++◌}
-use Prim.Native.Nat.{ℕ, ◌+◌, ◌*◌, ◌-◌, ◌≤◌}
+use mathlib.Core.Path.{◌≡◌}
+use Prim.Native.Nat.{◌*◌, ◌-◌, ◌≤◌}
 use lib.ListN.{length, take}
-use Rattle.word.specs.Buffer.{joined}
-use Rattle.word.specs.Word.{nat_at, pattern_at}
-use Rattle.word.proofs.Buffer.{front_put}
-use Rattle.text.specs.Text.{distance_digits, line_of, lines}
-use Rattle.text.proofs.Written.{length_line}
+use Rattle.text.specs.Text.{lines}
 use Rattle.text.proofs.lines_of.Given as goal
 
 abbrev pub invariant-loop-k : goal.invariant-loop-k

@@ -1,13 +1,6 @@
-use native.Mathlib.Omega.{arith}
-use native.Mathlib.Numerals.{add-one}
-use mathlib.Core.Path.{◌≡◌, refl, sym, ap, subst, ◌∙◌}
-use Prim.Native.Nat.{ℕ, ◌+◌, ◌*◌, ◌-◌, ◌≤◌}
+use mathlib.Core.Path.{◌≡◌}
+use Prim.Native.Nat.{◌*◌, ◌-◌, ◌≤◌}
 use lib.ListN.{length, take}
-use Rattle.word.specs.Buffer.{joined, put_at}
-use Rattle.word.specs.Word.{bytes_of}
-use Rattle.word.proofs.Words.{length_bytes}
-use Rattle.word.proofs.Buffer.{front_put}
-use Rattle.hexadecimal.specs.Hex.{hex_at}
 use Rattle.word_file.specs.WordFile.{file_words}
 use Rattle.word_file.proofs.file_words.Given as goal
 
