@@ -4,10 +4,6 @@ use lib.Dec.{leb}
 use Rattle.word.specs.Word.{nat_at}
 use Rattle.image.specs.declared.Sizes.{Sizes}
 use Rattle.drive.specs.Layout.{held_own, held_common}
-use borrow.Author.Rules.{rules}
-use Rattle.drive.proofs.own_place.Reads as own-place-reads
-use Rattle.drive_parts.proofs.held_sizes.Reads as held-sizes-reads
-use Rattle.word.proofs.nat_at.Reads as nat-at-reads
 use Rattle.drive_shares.proofs.affords.Goals as goal
 
 pub returns : goal.returns

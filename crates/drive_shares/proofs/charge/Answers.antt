@@ -4,12 +4,6 @@ use Rattle.word.specs.Word.{nat_at}
 use Rattle.image.specs.declared.Sizes.{Sizes}
 use Rattle.drive.specs.Layout.{held_own, held_common}
 use Rattle.drive.specs.Calls.{put_shares, charged}
-use borrow.Author.Rules.{rules}
-use Rattle.drive.proofs.own_place.Reads as own-place-reads
-use Rattle.drive_parts.proofs.held_sizes.Reads as held-sizes-reads
-use Rattle.drive_shares.proofs.saturating_sub.Reads as saturating-sub-reads
-use Rattle.drive_shares.proofs.put_shares.Reads as put-shares-reads
-use Rattle.word.proofs.nat_at.Reads as nat-at-reads
 use Rattle.drive_shares.proofs.charge.Goals as goal
 
 pub returns : goal.returns

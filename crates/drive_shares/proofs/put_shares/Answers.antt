@@ -4,9 +4,6 @@ use Prim.Native.Nat.{ℕ}
 use Rattle.word.specs.Buffer.{put_at}
 use Rattle.word.specs.Word.{bytes_of}
 use Rattle.drive.specs.Calls.{put_shares}
-use borrow.Author.Rules.{rules}
-use Rattle.drive.proofs.own_place.Reads as own-place-reads
-use Rattle.word.proofs.put_nat.Reads as put-nat-reads
 use Rattle.drive_shares.proofs.put_shares.Goals as goal
 
 pub returns : goal.returns

@@ -78,6 +78,13 @@ module _ (c : After-row_ends-x) where
   high_sum : to_z w64 (of_z w64 c.row_ends-x.result.high) ≡ sum l end.high
   high_sum = kept (high_is (row l) s.args.below.now s.args.above.now s.requires.0.values (small l) _ _ _ (s.requires.0.magnitude_rows (i l) l.loop-i-test.true) (sums-held l) (widths-held l) c.row_ends-x.ensures) (sum-small l end.high)
 
+  -- each of which a command can be made of
+  low-in : In64 (to_z w64 (of_z w64 c.row_ends-x.result.low))
+  low-in = subst In64 (sym low_sum) (sum-small l end.low)
+
+  high-in : In64 (to_z w64 (of_z w64 c.row_ends-x.result.high))
+  high-in = subst In64 (sym high_sum) (sum-small l end.high)
+
 pub loop-i-init : goal.loop-i-init
 loop-i-init c =
     let s = c in
@@ -128,9 +135,10 @@ bounds-t-i-in-loop-i-2 c = omega (arith, few (goal.at.bounds-t-i-in-loop-i-2 c).
 
 pub command-requires : goal.command-requires
 command-requires c =
-    let d = c in
     let f = (s (goal.at.command-requires c).After-row_ends-x).requires.0.low_terms in
-    ((subst In64 (sym (low_sum (goal.at.command-requires c).After-row_ends-x)) (sum-small (l (goal.at.command-requires c).After-row_ends-x) end.low), rw (h-back (l (goal.at.command-requires c).After-row_ends-x) (s (goal.at.command-requires c).After-row_ends-x).args.t f refl) (h-small (l (goal.at.command-requires c).After-row_ends-x) (s (goal.at.command-requires c).After-row_ends-x).args.t f refl)), (f.low, f.high))
+    let low = low-in (goal.at.command-requires c).After-row_ends-x in
+    let high = high-in (goal.at.command-requires c).After-row_ends-x in
+    ((omega (arith, low, high), rw (h-back (l (goal.at.command-requires c).After-row_ends-x) (s (goal.at.command-requires c).After-row_ends-x).args.t f refl) (h-small (l (goal.at.command-requires c).After-row_ends-x) (s (goal.at.command-requires c).After-row_ends-x).args.t f refl)), (f.low, f.high))
 
 pub offset_bounds-low-i : goal.offset_bounds-low-i
 offset_bounds-low-i c = omega (arith, few (goal.at.offset_bounds-low-i c).In-loop-i)
@@ -158,10 +166,9 @@ bounds-u-i-in-loop-i-2 c = omega (arith, few (goal.at.bounds-u-i-in-loop-i-2 c).
 
 pub command-requires-in-loop-i : goal.command-requires-in-loop-i
 command-requires-in-loop-i c =
-    let d = c in
     let f = (s (goal.at.command-requires-in-loop-i c).After-row_ends-x).requires.0.high_terms in
     let n = (s (goal.at.command-requires-in-loop-i c).After-row_ends-x).requires.0.count in
-    ((subst In64 (sym (high_sum (goal.at.command-requires-in-loop-i c).After-row_ends-x)) (sum-small (l (goal.at.command-requires-in-loop-i c).After-row_ends-x) end.high), rw (h-back (l (goal.at.command-requires-in-loop-i c).After-row_ends-x) (s (goal.at.command-requires-in-loop-i c).After-row_ends-x).args.u f n) (h-small (l (goal.at.command-requires-in-loop-i c).After-row_ends-x) (s (goal.at.command-requires-in-loop-i c).After-row_ends-x).args.u f n)), (f.low, f.high))
+    ((high-in (goal.at.command-requires-in-loop-i c).After-row_ends-x, rw (h-back (l (goal.at.command-requires-in-loop-i c).After-row_ends-x) (s (goal.at.command-requires-in-loop-i c).After-row_ends-x).args.u f n) (h-small (l (goal.at.command-requires-in-loop-i c).After-row_ends-x) (s (goal.at.command-requires-in-loop-i c).After-row_ends-x).args.u f n)), (f.low, f.high))
 
 pub offset_bounds-high-i : goal.offset_bounds-high-i
 offset_bounds-high-i c = omega (arith, few (goal.at.offset_bounds-high-i c).In-loop-i)

@@ -7,7 +7,7 @@ use mir.Syntax.{w64}
 use mir.Val.{to_z, of_z, SFits}
 use mir.Facts.{to_z-of_z}
 use Rattle.integer.specs.Round.{floor}
-use Rattle.integer.proofs.Machine.{back, fit_abs}
+use Rattle.integer.proofs.Machine.{back, fit_abs, sfits_add}
 use Rattle.gradient.specs.Index.{sum_z}
 use Rattle.image.specs.declared.Input.TheVariants.{Target}
 use Rattle.image.specs.Sizes.{command_count}
@@ -67,6 +67,9 @@ module _ (l : In-loop-i) where
 pair : {x s u v : ℤ} → x ≡ s → nat_abs s < 2 ^ 63 → u ≡ v → to_z w64 (of_z w64 x) +ℤ u ≡ s +ℤ v
 pair {x} {s} {u} {v} p h q = ap (λ (z : ℤ). to_z w64 (of_z w64 z) +ℤ u) p ∙ ap (λ (z : ℤ). z +ℤ u) (to_z-of_z (fit_abs s h)) ∙ ap (λ (z : ℤ). s +ℤ z) q
 
+near : (u v : ℤ) → nat_abs u ≤ 2 ^ 51 → nat_abs v ≤ 2 ^ 51 → SFits w64 (u +ℤ v)
+near u v h k = sfits_add u v (2 ^ 51) (2 ^ 51) h k (omega arith)
+
 module _ (c : After-gain_sum-g) where
   abbrev l : In-loop-i
   l = (goal.at.After-gain_sum-g c).In-loop-i
@@ -79,6 +82,18 @@ module _ (c : After-gain_sum-g) where
 
   high_read : to_z w64 (of_z w64 c.gain_ends-x.result.high) +ℤ to_z w64 (of_z w64 c.gain_sum-g.result) ≡ whole l end.high
   high_read = read end.high c.gain_ends-x.ensures.high_sum
+
+  -- the two parts of a sum are small
+  ends-small : {x : ℤ} (e : end.End) → x ≡ sum l e → nat_abs (to_z w64 (of_z w64 x)) ≤ 2 ^ 51
+  ends-small {x} e q =
+      let h = sum-small l e 0 (a l).args.z.nx (omega arith) in
+      rw (q, to_z-of_z (fit_abs (sum l e) (omega (arith, h)))) (omega (arith, h))
+
+  goal-small : nat_abs (to_z w64 (of_z w64 c.gain_sum-g.result)) ≤ 2 ^ 51
+  goal-small =
+      let s = a l in
+      let h = target_small end.low s.args.z s.args.image.now s.args.ranges.now s.args.target.now (i l) (lows l) (highs l) (toward l) (lows-held l) (highs-held l) l.words_of-goal.ensures.0 (s.requires.sums (i l) l.loop-i-test.true end.low) 0 s.args.z.nr (omega arith) in
+      rw (back c.gain_sum-g.result c.gain_sum-g.type_inv, c.gain_sum-g.ensures) (omega (arith, h))
 
 pub blank-low-requires : goal.blank-low-requires
 blank-low-requires c = tt
@@ -106,7 +121,11 @@ gain_sum-g-requires c =
     ((s.requires.whole, l.loop-i-test.true), (l.words_of-goal.ensures.1, λ b k h. omega (arith, target_small end.low s.args.z s.args.image.now s.args.ranges.now s.args.target.now (i (goal.at.gain_sum-g-requires c).In-loop-i) (lows (goal.at.gain_sum-g-requires c).In-loop-i) (highs (goal.at.gain_sum-g-requires c).In-loop-i) (toward (goal.at.gain_sum-g-requires c).In-loop-i) (lows-held (goal.at.gain_sum-g-requires c).In-loop-i) (highs-held (goal.at.gain_sum-g-requires c).In-loop-i) l.words_of-goal.ensures.0 (s.requires.sums (i (goal.at.gain_sum-g-requires c).In-loop-i) l.loop-i-test.true end.low) b k h)))
 
 pub overflow_add-x : goal.overflow_add-x
-overflow_add-x c = let d = c in subst (SFits w64) (sym (low_read (goal.at.overflow_add-x c).After-gain_sum-g)) (fits (l (goal.at.overflow_add-x c).After-gain_sum-g) end.low)
+overflow_add-x c =
+    let g = (goal.at.overflow_add-x c).After-gain_sum-g in
+    let x = ends-small g end.low c.gain_ends-x.ensures.low_sum in
+    let y = goal-small g in
+    search (arith, near)
 
 pub floor_div-requires : goal.floor_div-requires
 floor_div-requires c = omega (arith, (a (l (goal.at.floor_div-requires c).After-gain_sum-g)).requires.whole.sizes.b_high)

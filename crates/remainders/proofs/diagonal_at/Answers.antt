@@ -3,7 +3,6 @@ use mathlib.Core.Path.{refl}
 use lib.Signed.{nat_abs-le}
 use borrow.Author.Tests.{eq-eqb, ne_eqb}
 use Rattle.integer.proofs.Machine.{back}
-use borrow.Author.Rules.{rules}
 use Rattle.remainders.proofs.diagonal_at.Goals as goal
 
 pub returns-then-i-j : goal.returns-then-i-j

@@ -7,7 +7,6 @@ use mir.Facts.{to_z-of_z}
 use Rattle.integer.proofs.Laws.{abs_sub}
 use Rattle.integer.proofs.Machine.{back, sfits_sub}
 use Rattle.remainders.proofs.Entries.{less_is, from_is}
-use borrow.Author.Rules.{rules}
 use Rattle.remainders.proofs.difference_at.Goals.{After-diagonal_at-d}
 use Rattle.remainders.proofs.difference_at.Goals as goal
 

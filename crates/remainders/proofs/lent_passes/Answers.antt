@@ -3,11 +3,10 @@ use mathlib.Core.Path.{◌≡◌, sym, ◌∙◌}
 use mathlib.Core.Bool.{true}
 use Prim.Native.Nat.{◌+◌, ◌*◌}
 use lib.ListN.{length}
-use borrow.Author.Tests.{eq-eqb, ne_eqb, not-true, not-false}
+use borrow.Author.Tests.{eq-eqb, ne_eqb}
 use Rattle.gradient.specs.Index.{all_to}
 use Rattle.image.specs.Sizes.{Whole, command_count}
 use Rattle.lent.specs.Lent.{lent_count, size_test, bounds_test, entry_test, lent_test, Lent}
-use borrow.Author.Rules.{rules}
 use Rattle.remainders.proofs.lent_passes.Goals.{Else-factors-count, Else-not-bounds_pass, Else-not-entries_pass, Start}
 use Rattle.remainders.proofs.lent_passes.Goals as goal
 

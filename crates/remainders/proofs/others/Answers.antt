@@ -1,17 +1,9 @@
 use native.Mathlib.Omega.{arith}
 use native.Mathlib.Numerals.{add-one}
 use mathlib.Core.Path.{◌≡◌, ap, ◌∙◌}
-use mathlib.Core.Bool.{cond}
-use mathlib.Core.List.{List}
-use Prim.Native.Nat.{ℕ, ◌*◌, ◌^◌, ◌-◌, ◌≤◌}
-use lib.Dec.{eqb}
-use lib.IntN.{nat_abs}
 use Rattle.gradient.specs.Index.{sum_n}
 use Rattle.factors.specs.Form.{others}
-use Rattle.image.specs.declared.Sizes.{Sizes}
 use Rattle.image.specs.Sizes.{command_count}
-use Rattle.lent.specs.declared.Side.{Side}
-use Rattle.lent.specs.Lent.{remainder_at}
 use Rattle.remainders.proofs.others.Invariants.{other}
 use Rattle.remainders.proofs.others.Goals as goal
 

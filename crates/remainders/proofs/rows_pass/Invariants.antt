@@ -1,12 +1,8 @@
-use native.Mathlib.Omega.{arith}
-use native.Mathlib.Numerals.{add-one}
-use mathlib.Core.Path.{◌≡◌, refl, sym, subst, ◌∙◌}
+use mathlib.Core.Path.{◌≡◌}
 use mathlib.Core.Bool.{true}
-use Prim.Native.Nat.{ℕ, ◌-◌, ◌≤◌}
-use borrow.Author.Tests.{not-true, not-false}
+use Prim.Native.Nat.{◌-◌, ◌≤◌}
 use Rattle.gradient.specs.Index.{all_to}
-use Rattle.gradient.proofs.Tests.{all_fails}
-use Rattle.factors.specs.Form.{row_dominated, dominated_test}
+use Rattle.factors.specs.Form.{row_dominated}
 use Rattle.image.specs.Sizes.{command_count}
 use Rattle.lent.specs.Lent.{remainder_at}
 use Rattle.remainders.proofs.rows_pass.Given as goal
