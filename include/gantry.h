@@ -47,7 +47,7 @@ extern "C" {
 #define GANTRY_MAX_IMAGE_BYTES GANTRY_IMAGE_BYTES(GANTRY_MAX_COMMANDS, GANTRY_MAX_STATES, GANTRY_MAX_TARGETS)
 #define GANTRY_MAX_PAGE_BYTES GANTRY_PAGE_BYTES(GANTRY_MAX_COMMANDS, GANTRY_MAX_STATES, GANTRY_MAX_TARGETS)
 
-/* Stack enough for any call: the compiled archive takes 10 KiB at most, read off its machine code (README has the
+/* Stack enough for any call: the compiled archive takes 11.3 KiB at most, read off its machine code (README has the
  * figures), and the rest is for the memcpy and memset that the firmware supplies. */
 #define GANTRY_STACK_BYTES 12288
 
