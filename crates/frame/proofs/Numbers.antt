@@ -1,8 +1,13 @@
 -- What line 01, a later line and a conversion give has the number that their tests give. Assumes nothing.
 use mathlib.Core.Path.{◌≡◌, refl, ap, ◌∙◌}
-use mathlib.Core.Bool.{Bool, true, false, cond, ◌&&◌}
+use mathlib.Core.Bool.{Bool, true, false, not, cond, ◌&&◌}
+use Prim.Native.Nat.{ℕ}
 use lib.Dec.{eqb}
+use lib.IntN.{ℤ, pos, negsuc}
 use lib.Ieee.{Float, binary64, of_bits}
+use Rattle.double.specs.Double.{accepted, converted_number, is_negative, rounded, rule_of}
+use Rattle.double.specs.declared.Converted.{Converted}
+use Rattle.double.specs.declared.Converted.TheVariants.{Word, Refused}
 use Rattle.image.specs.declared.Sizes.{Sizes}
 use Rattle.image.specs.Sizes.{sound}
 use Rattle.line.specs.declared.Line.{Line}
@@ -12,7 +17,7 @@ use Rattle.frame.specs.declared.Head.{Head}
 use Rattle.frame.specs.declared.Head.TheVariants.{Sized, Unsized}
 use Rattle.frame.specs.declared.Value.{Value}
 use Rattle.frame.specs.declared.Value.TheVariants.{Double, Fault}
-use Rattle.frame.specs.Frame.{due_number, frame_sizes, frame_zeros, head_fault, head_of, is_due, line_one_number, value_fault, value_of}
+use Rattle.frame.specs.Frame.{due_number, frame_sizes, frame_zeros, head_fault, head_of, is_due, is_input_limit, line_one_number, not_below_zero, rounding_of, value_fault, value_of, word_number, word_of}
 
 head_number_lem : (l : Line) → head_fault (head_of l) ≡ line_one_number l
 unfolding head_of
@@ -35,9 +40,25 @@ value_number_lem d (Frame kind row column bits) = by (is_due d kind row column) 
     by true x = refl
     by false x = refl
 
+word_number_lem : (z : Sizes) (kind : ℕ) (x : Float) → converted_number (word_of z kind x) ≡ word_number z kind x
+unfolding word_of
+word_number_lem z kind x =
+    let rule = rule_of (rounding_of kind) in
+    by (is_input_limit kind) (accepted rule z.b z.w x) (rounded rule z.b x)
+  where
+    by : (t a : Bool) (v : ℤ) → converted_number (cond t (not_below_zero (cond a (Word v) Refused)) (cond a (Word v) Refused)) ≡ cond a (cond (not (t && is_negative v)) 0 5) 5
+    by true true (pos n) = refl
+    by true true (negsuc n) = refl
+    by true false v = refl
+    by false true v = refl
+    by false false v = refl
+
 -- what the promises say follows from what is given
 pub head_told : (l : Line) {h : Head} → h ≡ head_of l → (h ≡ head_of l) × (head_fault h ≡ line_one_number l)
 head_told l e = (e, ap head_fault e ∙ head_number_lem l)
 
 pub value_told : (d : Due) (l : Line) {v : Value} → v ≡ value_of d l → (v ≡ value_of d l) × (value_fault v ≡ due_number d l)
 value_told d l e = (e, ap value_fault e ∙ value_number_lem d l)
+
+pub word_told : (z : Sizes) (kind : ℕ) (x : Float) {c : Converted} → c ≡ word_of z kind x → (c ≡ word_of z kind x) × (converted_number c ≡ word_number z kind x)
+word_told z kind x e = (e, ap converted_number e ∙ word_number_lem z kind x)
