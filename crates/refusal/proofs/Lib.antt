@@ -1,0 +1,2 @@
+-- The laws that other crates cite.
+pub mod Numbers
