@@ -1,79 +1,65 @@
 // The parts of a drive in the buffer that the caller lends, and the checks of that buffer.
 #![tactic(auto)]
 
-ghost use Rattle.std.specs.Prelude.{◌≡◌, ◌+◌, ◌*◌, ◌<◌, length};
+ghost use Rattle.std.specs.Prelude.{◌≡◌, ◌<◌, length};
+ghost use Rattle.refusal.specs.Number.{number_of};
 ghost use Rattle.image.specs.Layout.{sizes_of};
 ghost use Rattle.device.specs.Device.{most_heads};
-ghost use Rattle.drive.specs.Layout.{drive_length, image_place, start_place, held_length, held_image, held_command_count};
+ghost use Rattle.device.specs.Call.{count_number};
+ghost use Rattle.drive.specs.Layout.{drive_length, held_image, held_start, held_answer};
 ghost use Rattle.drive.specs.Calls.{place_number, parts_number};
-ghost use Rattle.device.specs.Call.{is_count};
 ghost use Rattle.drive.specs.Parts.{Found};
 
 use drive::{COUNT_PLACE, DRIVE_LENGTH, IMAGE_PLACE, IMAGE_ROOM, LENGTH_PLACE, MOST_HEADS};
 use image::Sizes;
+use refusal::Refusal;
 
-// The bytes of one buffer, written to another of the same length.
-pub fn copy(from: &[u8], to: &mut [u8])
-    requires { length to.old ≡ length from.now }
-    ensures { to.new ≡ from.now }
-{
-    let mut i = 0;
-    while i < to.len() {
-        to[i] = from[i];
-        i += 1;
-    }
-}
-
-// Where the held image ends.
-pub fn image_end(drive: &[u8]) -> usize
+// The held image.
+#[tactic(auto, using(drive::proofs::Parts::image_part))]
+pub fn held_image(drive: &[u8]) -> &[u8]
     requires { length drive.now ≡ drive_length }
-    ensures { result ≡ image_place + held_length drive.now }
+    ensures { result.now ≡ held_image drive.now }
 {
     let length = word::nat_at(drive, LENGTH_PLACE) as usize;
-    if length < IMAGE_ROOM {
-        IMAGE_PLACE + length
-    } else {
-        IMAGE_PLACE + IMAGE_ROOM
-    }
+    let end = IMAGE_PLACE + length.min(IMAGE_ROOM);
+    &drive[IMAGE_PLACE..end]
 }
 
-// Whether a drive can have that many heads.
-pub fn is_count(heads: u64) -> bool
-    ensures { result ≡ is_count heads }
+// Check 3 of a number of heads.
+pub fn check_count(heads: u64) -> Result<(), Refusal>
+    ensures { number_of result ≡ count_number heads }
 {
-    if 1 <= heads {
-        heads <= MOST_HEADS as u64
+    if (1..=MOST_HEADS as u64).contains(&heads) {
+        Ok(())
     } else {
-        false
+        Err(Refusal::Size)
     }
 }
 
-// 3 for a head that no drive has, 15 for the drive's length, 3 for a head that this drive has not.
-pub fn place_number(drive: &[u8], k: usize) -> u32
-    ensures { result ≡ place_number drive.now k }
+// Check 3 for a head that no drive has, 15 for the drive's length, 3 for a head that this drive has not.
+#[tactic(auto, unfolding(drive::specs::Calls::place_number, drive::specs::Layout::held_count))]
+pub fn check_place(drive: &[u8], k: usize) -> Result<(), Refusal>
+    ensures { number_of result ≡ place_number drive.now k }
 {
     if MOST_HEADS <= k {
-        return 3;
+        return Err(Refusal::Size);
     }
     if drive.len() != DRIVE_LENGTH {
-        return 15;
+        return Err(Refusal::Buffer);
     }
     if word::nat_at(drive, COUNT_PLACE) <= k as u64 {
-        return 3;
+        return Err(Refusal::Size);
     }
-    0
+    Ok(())
 }
 
 // The head and the drive's length, then the held image's length and sizes.
-pub fn parts_number(drive: &[u8], k: usize) -> u32
-    ensures { result ≡ parts_number drive.now k }
+#[tactic(auto, using(image::proofs::Ordering::handed_on, image::proofs::Ordering::went_on), unfolding(drive::specs::Calls::parts_number))]
+pub fn check_parts(drive: &[u8], k: usize) -> Result<(), Refusal>
+    ensures { number_of result ≡ parts_number drive.now k }
 {
-    let number = place_number(drive, k);
-    if number != 0 {
-        return number;
-    }
-    let end = image_end(drive);
-    integrity::head_number(&drive[IMAGE_PLACE..end])
+    check_place(drive, k)?;
+    integrity::check_head(held_image(drive))
 }
 
 // The sizes of the held image.
@@ -81,15 +67,27 @@ pub fn held_sizes(drive: &[u8]) -> Sizes
     requires { Found drive.now }
     ensures { result ≡ sizes_of (held_image drive.now) }
 {
-    let end = image_end(drive);
-    image::sizes_of(&drive[IMAGE_PLACE..end])
+    image::sizes_of(held_image(drive))
 }
 
-// Where the start of head k ends.
-pub fn start_end(drive: &[u8], k: usize) -> usize
+// The start of head k.
+pub fn held_start(drive: &[u8], k: usize) -> &[u8]
     requires { Found drive.now × (k < most_heads) }
-    ensures { result ≡ start_place k + 4 * held_command_count drive.now }
+    ensures { result.now ≡ held_start drive.now k }
 {
     let z = held_sizes(drive);
-    drive::start_place(k) + 4 * (z.nu * z.steps)
+    let place = drive::start_place(k);
+    let end = place + 4 * (z.nu * z.steps);
+    &drive[place..end]
+}
+
+// The answer of head k.
+pub fn held_answer(drive: &[u8], k: usize) -> &[u8]
+    requires { Found drive.now × (k < most_heads) }
+    ensures { result.now ≡ held_answer drive.now k }
+{
+    let z = held_sizes(drive);
+    let place = drive::answer_place(k);
+    let end = place + (8 * (z.nu * z.steps) + 8);
+    &drive[place..end]
 }
