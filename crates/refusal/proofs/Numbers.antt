@@ -1,9 +1,9 @@
 -- The numbers of refusals. Assumes nothing.
-use Rattle.std.specs.Prelude.{ℕ, ◌≡◌, ◌≤◌, Result, Ok, Err}
+use Rattle.std.specs.Prelude.{◌≤◌}
 use Rattle.std.proofs.Common.{arith}
 use Rattle.refusal.specs.declared.Refusal.{Refusal}
 use Rattle.refusal.specs.declared.Refusal.TheVariants.{Malformed, Misplaced, Size, Count, Word, Length, Limits, Symmetry, Margin, Total, Momentum, Headroom, State, Start, Buffer, Target, Stop, Idle, Waiting, Sweeps, Factors}
-use Rattle.refusal.specs.Number.{number, number_of}
+use Rattle.refusal.specs.Number.{number}
 
 -- no refusal has the number of an answer
 pub above_zero : (why : Refusal) → 1 ≤ number why

@@ -10,5 +10,5 @@ pub returns : goal.returns
 unfolding momentum_at
 returns c =
     let a = c.args in
-    let e : c.lower_place.result + 8 * (a.z.nu * a.z.steps) ≡ momentum_place a.z = omega (arith, c.lower_place.ensures.0) in
+    let e : c.lower_place.result + 8 * c.command_count-n.result ≡ momentum_place a.z = rw c.command_count-n.ensures (omega (arith, c.lower_place.ensures.0)) in
     rw (back c.word_at.result c.word_at.type_inv) (c.word_at.ensures.0 ∙ ap (word_at a.image.now) e, c.word_at.ensures.1)

@@ -10,5 +10,5 @@ pub returns : goal.returns
 unfolding upper_at
 returns c =
     let a = c.args in
-    let e : c.lower_place.result + 4 * (a.z.nu * a.z.steps + a.k) ≡ upper_place a.z + 4 * a.k = omega (arith, c.lower_place.ensures.0) in
+    let e : c.lower_place.result + 4 * (c.command_count-n.result + a.k) ≡ upper_place a.z + 4 * a.k = rw c.command_count-n.ensures (omega (arith, c.lower_place.ensures.0)) in
     rw (back c.word_at.result c.word_at.type_inv) (c.word_at.ensures.0 ∙ ap (word_at a.image.now) e, c.word_at.ensures.1)
