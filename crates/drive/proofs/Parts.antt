@@ -1,5 +1,5 @@
 -- The parts of a drive as the code cuts them out, and what it writes. Assumes nothing.
-use mathlib.Core.Path.{◌≡◌, sym, ap, ap₂, ◌∙◌}
+use mathlib.Core.Path.{◌≡◌, ap, ap₂, ◌∙◌}
 use mathlib.Core.List.{List}
 use Prim.Native.Nat.{ℕ, ◌+◌, ◌*◌, ◌-◌, ◌<◌, ◌≤◌}
 use native.Mathlib.Nat.{mul-le-mul, le_refl}
@@ -31,19 +31,18 @@ start_part d k p r b e =
     let n : r - p ≡ 4 * held_command_count d = omega (arith, b, e) in
     ap₂ (λ (m q : ℕ). take m (drop q d)) n b
 
--- the answer, by the held image's sizes
-module _ (d : List ℕ) (z : Sizes) (e : z ≡ sizes_of (held_image d)) where
-  pub answer_part : (k p : ℕ) → p ≡ answer_place k → take (p + answer_length z - p) (drop p d) ≡ held_answer d k
-  unfolding held_answer
-  answer_part k p b =
-      let n : p + answer_length z - p ≡ answer_length (sizes_of (held_image d)) = omega (arith, ap command_count e) in
-      ap₂ (λ (m q : ℕ). take m (drop q d)) n b
+-- the answer of head k, from where it begins up to where it ends
+pub answer_part : (d : List ℕ) (k p r : ℕ) → p ≡ answer_place k → r ≡ answer_place k + answer_length (sizes_of (held_image d)) → take (r - p) (drop p d) ≡ held_answer d k
+unfolding held_answer
+answer_part d k p r b e =
+    let n : r - p ≡ answer_length (sizes_of (held_image d)) = omega (arith, b, e) in
+    ap₂ (λ (m q : ℕ). take m (drop q d)) n b
 
-  pub answer_length_lem : Found d → (k : ℕ) → k < most_heads → length (held_answer d k) ≡ answer_length z
-  unfolding held_answer
-  answer_length_lem f k h =
-      let few : held_command_count d ≤ 16 = f.whole.sizes.n_high in
-      length-take-le (answer_length (sizes_of (held_image d))) (drop (answer_place k) d) (rw (length-drop (answer_place k) d) (omega (arith, few, f.size))) ∙ ap answer_length (sym e)
+pub answer_length_lem : (d : List ℕ) → Found d → (k : ℕ) → k < most_heads → length (held_answer d k) ≡ answer_length (sizes_of (held_image d))
+unfolding held_answer
+answer_length_lem d f k h =
+    let few : held_command_count d ≤ 16 = f.whole.sizes.n_high in
+    length-take-le (answer_length (sizes_of (held_image d))) (drop (answer_place k) d) (rw (length-drop (answer_place k) d) (omega (arith, few, f.size)))
 
 -- the first commands are a part of it
 pub first_within : (z : Sizes) → Sound z → 4 * z.nu ≤ answer_length z

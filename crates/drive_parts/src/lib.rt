@@ -1,18 +1,56 @@
 // The parts of a drive in the buffer that the caller lends, and the checks of that buffer.
 #![tactic(auto)]
 
-ghost use Rattle.std.specs.Prelude.{◌≡◌, ◌<◌, length};
+ghost use Rattle.std.specs.Prelude.{◌≡◌, ◌^◌, ◌<◌, length};
 ghost use Rattle.refusal.specs.Number.{number_of};
 ghost use Rattle.image.specs.Layout.{sizes_of};
 ghost use Rattle.device.specs.Device.{most_heads};
 ghost use Rattle.device.specs.Call.{count_number};
-ghost use Rattle.drive.specs.Layout.{drive_length, held_image, held_start, held_answer};
-ghost use Rattle.drive.specs.Calls.{place_number, parts_number};
+ghost use Rattle.drive.specs.Layout.{drive_length, held_image, held_start, held_answer, held_count, held_own, held_common};
+ghost use Rattle.drive.specs.Calls.{idle_at, place_number, parts_number};
 ghost use Rattle.drive.specs.Parts.{Found};
 
-use drive::{COUNT_PLACE, DRIVE_LENGTH, IMAGE_PLACE, IMAGE_ROOM, LENGTH_PLACE, MOST_HEADS};
+use drive::{
+    COMMON_PLACE, COUNT_PLACE, DRIVE_LENGTH, IMAGE_PLACE, IMAGE_ROOM, LENGTH_PLACE, MOST_HEADS,
+};
 use image::Sizes;
 use refusal::Refusal;
+
+// How many heads the drive says that it has.
+#[tactic(auto, unfolding(drive::specs::Layout::held_count))]
+pub fn held_count(drive: &[u8]) -> u64
+    requires { length drive.now ≡ drive_length }
+    ensures { (result ≡ held_count drive.now) × (result < 2 ^ 32) }
+{
+    word::nat_at(drive, COUNT_PLACE)
+}
+
+// What head k has left of its own share.
+#[tactic(auto, unfolding(drive::specs::Layout::held_own))]
+pub fn held_own(drive: &[u8], k: usize) -> u64
+    requires { (k < most_heads) × (length drive.now ≡ drive_length) }
+    ensures { (result ≡ held_own drive.now k) × (result < 2 ^ 32) }
+{
+    word::nat_at(drive, drive::own_place(k))
+}
+
+// What is left of the common part.
+#[tactic(auto, unfolding(drive::specs::Layout::held_common))]
+pub fn held_common(drive: &[u8]) -> u64
+    requires { length drive.now ≡ drive_length }
+    ensures { (result ≡ held_common drive.now) × (result < 2 ^ 32) }
+{
+    word::nat_at(drive, COMMON_PLACE)
+}
+
+// Whether no answer of head k waits.
+#[tactic(auto, unfolding(drive::specs::Layout::held_waiting))]
+pub fn is_idle(drive: &[u8], k: usize) -> bool
+    requires { (k < most_heads) × (length drive.now ≡ drive_length) }
+    ensures { result ≡ idle_at drive.now k }
+{
+    word::nat_at(drive, drive::waiting_place(k)) == 0
+}
 
 // The held image.
 #[tactic(auto, using(drive::proofs::Parts::image_part))]
@@ -37,7 +75,7 @@ pub fn check_count(heads: u64) -> Result<(), Refusal>
 }
 
 // Check 3 for a head that no drive has, 15 for the drive's length, 3 for a head that this drive has not.
-#[tactic(auto, unfolding(drive::specs::Calls::place_number, drive::specs::Layout::held_count))]
+#[tactic(auto, unfolding(drive::specs::Calls::place_number))]
 pub fn check_place(drive: &[u8], k: usize) -> Result<(), Refusal>
     ensures { number_of result ≡ place_number drive.now k }
 {
@@ -47,14 +85,14 @@ pub fn check_place(drive: &[u8], k: usize) -> Result<(), Refusal>
     if drive.len() != DRIVE_LENGTH {
         return Err(Refusal::Buffer);
     }
-    if word::nat_at(drive, COUNT_PLACE) <= k as u64 {
+    if held_count(drive) <= k as u64 {
         return Err(Refusal::Size);
     }
     Ok(())
 }
 
 // The head and the drive's length, then the held image's length and sizes.
-#[tactic(auto, using(image::proofs::Ordering::handed_on, image::proofs::Ordering::went_on), unfolding(drive::specs::Calls::parts_number))]
+#[tactic(auto, using(image::proofs::Ordering::handed_on), unfolding(drive::specs::Calls::parts_number))]
 pub fn check_parts(drive: &[u8], k: usize) -> Result<(), Refusal>
     ensures { number_of result ≡ parts_number drive.now k }
 {
@@ -71,23 +109,23 @@ pub fn held_sizes(drive: &[u8]) -> Sizes
 }
 
 // The start of head k.
+#[tactic(auto, using(drive::proofs::Parts::start_part))]
 pub fn held_start(drive: &[u8], k: usize) -> &[u8]
     requires { Found drive.now × (k < most_heads) }
     ensures { result.now ≡ held_start drive.now k }
 {
-    let z = held_sizes(drive);
     let place = drive::start_place(k);
-    let end = place + 4 * (z.nu * z.steps);
+    let end = place + 4 * held_sizes(drive).command_count();
     &drive[place..end]
 }
 
 // The answer of head k.
+#[tactic(auto, using(drive::proofs::Parts::answer_part))]
 pub fn held_answer(drive: &[u8], k: usize) -> &[u8]
     requires { Found drive.now × (k < most_heads) }
     ensures { result.now ≡ held_answer drive.now k }
 {
-    let z = held_sizes(drive);
     let place = drive::answer_place(k);
-    let end = place + (8 * (z.nu * z.steps) + 8);
+    let end = place + (8 * held_sizes(drive).command_count() + 8);
     &drive[place..end]
 }
