@@ -13,11 +13,8 @@ fn moved_from(z: Sizes, k: usize) -> usize
     requires { Sound z × (k < command_count z) }
     ensures { (result ≡ moved_from z k) × (result < command_count z) }
 {
-    if k + z.nu < z.nu * z.steps {
-        k + z.nu
-    } else {
-        k
-    }
+    let next = k + z.nu;
+    if next < z.command_count() { next } else { k }
 }
 
 // Command k of the next start.
@@ -36,12 +33,9 @@ pub fn next_start(image: &[u8], z: Sizes, answer: &[u8]) -> [i64; 16]
     requires { Whole z image.now × (4 * command_count z ≤ length answer.now) }
     ensures { Moved z image.now answer.now result }
 {
-    let n = z.nu * z.steps;
-    let mut next = array::blank();
-    let mut k = 0;
-    while k < n {
+    let mut next = [0; 16];
+    for k in 0..z.command_count() {
         next[k] = moved_at(image, z, answer, k);
-        k += 1;
     }
     next
 }
