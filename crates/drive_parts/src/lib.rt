@@ -4,6 +4,7 @@
 ghost use Rattle.std.specs.Prelude.{◌≡◌, ◌^◌, ◌<◌, length};
 ghost use Rattle.refusal.specs.Number.{number_of};
 ghost use Rattle.image.specs.Layout.{sizes_of};
+ghost use Rattle.interface.specs.Calls.{answer_length};
 ghost use Rattle.device.specs.Device.{most_heads};
 ghost use Rattle.device.specs.Call.{count_number};
 ghost use Rattle.drive.specs.Layout.{drive_length, held_image, held_start, held_answer, held_count, held_own, held_common};
@@ -92,7 +93,7 @@ pub fn check_place(drive: &[u8], k: usize) -> Result<(), Refusal>
 }
 
 // The head and the drive's length, then the held image's length and sizes.
-#[tactic(auto, using(image::proofs::Ordering::handed_on), unfolding(drive::specs::Calls::parts_number))]
+#[tactic(auto, using(drive::proofs::Accept::placed, image::proofs::Ordering::handed_on, image::proofs::Ordering::went_on), unfolding(drive::specs::Calls::parts_number))]
 pub fn check_parts(drive: &[u8], k: usize) -> Result<(), Refusal>
     ensures { number_of result ≡ parts_number drive.now k }
 {
@@ -123,7 +124,8 @@ pub fn held_start(drive: &[u8], k: usize) -> &[u8]
 #[tactic(auto, using(drive::proofs::Parts::answer_part))]
 pub fn held_answer(drive: &[u8], k: usize) -> &[u8]
     requires { Found drive.now × (k < most_heads) }
-    ensures { result.now ≡ held_answer drive.now k }
+    ensures bytes { result.now ≡ held_answer drive.now k }
+    ensures size { length result.now ≡ answer_length (sizes_of (held_image drive.now)) }
 {
     let place = drive::answer_place(k);
     let end = place + (8 * held_sizes(drive).command_count() + 8);
