@@ -1,11 +1,11 @@
 // Check 8 of a row of H, its symmetry, and what 9 to 11 take of it: its margin and its total.
 #![tactic(auto)]
 
-ghost use Rattle.std.specs.Prelude.{◌≡◌, cond, ◌+◌, ◌*◌, ◌^◌, ◌≤◌, ◌<◌, eqb, length, pos, nat_abs};
-ghost use Rattle.word.specs.Word.{word_at};
+ghost use Rattle.std.specs.Prelude.{◌≡◌, ℕ, ℤ, ◌*◌, ◌^◌, ◌≤◌, ◌<◌, pos, nat_abs};
+ghost use Rattle.dominance.specs.Others.{others_in, Answers};
 ghost use Rattle.image.specs.Sizes.{Whole, command_count};
 ghost use Rattle.image.specs.Layout.{cost_at};
-ghost use Rattle.interface.specs.Tables.{eq_z, others_of, margin_at, total_at, symmetry_test};
+ghost use Rattle.interface.specs.Tables.{margin_at, total_at, symmetry_test};
 
 use image::Sizes;
 
@@ -29,33 +29,25 @@ pub fn cost_at(image: &[u8], z: Sizes, i: usize, j: usize) -> i64
     requires { Whole z image.now × ((i < command_count z) × (j < command_count z)) }
     ensures { (result ≡ cost_at z image.now i j) × (nat_abs result ≤ 2 ^ 31) }
 {
-    let at = image::cost_offset(z, i);
+    let at = z.cost_offset(i);
     word::word_at(&image[at..], 4 * j)
 }
 
-// The magnitude of entry j of row i of H, 0 on the diagonal, from the part of the image that starts at that row.
-fn other_at(row: &[u8], i: usize, j: usize) -> u64
-    requires { 4 * j + 4 ≤ length row.now }
-    ensures { (result ≡ cond (eqb i j) 0 (nat_abs (word_at row.now (4 * j)))) × (result ≤ 2 ^ 31) }
+// The sum of the magnitudes of n entries but entry i, as check 9 takes it of a row of H and check 21 of a row of a remainder.
+pub fn others<F: Fn(usize) -> i64>(i: usize, n: usize, entry: F) -> u64
+    requires few { n ≤ 16 }
+    requires callable { (j : ℕ) → j < n → F.pre entry j }
+    requires small { (j : ℕ) (x : ℤ) → j < n → F.post entry j x → nat_abs x ≤ 2 ^ 53 }
+    ensures sum { (row : ℕ → ℤ) → Answers (F.post entry) row n → result ≡ others_in row i n }
+    ensures most { result ≤ n * 2 ^ 53 }
 {
-    if i == j {
-        return 0;
+    let mut sum = 0;
+    for j in 0..n {
+        if j != i {
+            sum += entry(j).unsigned_abs();
+        }
     }
-    integer::magnitude(word::word_at(row, 4 * j))
-}
-
-// The sum of the magnitudes off the diagonal of row i of H, from that part.
-fn others(row: &[u8], i: usize, n: usize) -> u64
-    requires { (n ≤ 16) × (4 * n ≤ length row.now) }
-    ensures { (result ≡ others_of row.now i n) × (result ≤ 2 ^ 35) }
-{
-    let mut s: u64 = 0;
-    let mut j = 0;
-    while j < n {
-        s += other_at(row, i, j);
-        j += 1;
-    }
-    s
+    sum
 }
 
 // The ends of row i's Gershgorin disc: its diagonal less the others, and plus them.
@@ -63,20 +55,14 @@ pub fn disc_of(image: &[u8], z: Sizes, i: usize) -> Disc
     requires { Whole z image.now × (i < command_count z) }
     ensures { (result.margin ≡ margin_at z image.now i) × (result.total ≡ total_at z image.now i) }
 {
-    let at = image::cost_offset(z, i);
+    let at = z.cost_offset(i);
     let row = &image[at..];
     let diagonal = word::word_at(row, 4 * i);
-    let radius = others(row, i, z.nu * z.steps) as i64;
-    let margin = diagonal - radius;
-    let total = diagonal + radius;
-    Disc { margin, total }
-}
-
-// Whether a is c.
-fn is_equal(a: i64, c: i64) -> bool
-    ensures { result ≡ eq_z a c }
-{
-    if a <= c { c <= a } else { false }
+    let radius = others(i, z.command_count(), |j| word::word_at(row, 4 * j)) as i64;
+    Disc {
+        margin: diagonal - radius,
+        total: diagonal + radius,
+    }
 }
 
 // Whether row i of H is its column i.
@@ -84,13 +70,5 @@ pub fn is_symmetric(image: &[u8], z: Sizes, i: usize) -> bool
     requires { Whole z image.now × (i < command_count z) }
     ensures { result ≡ symmetry_test z image.now i }
 {
-    let n = z.nu * z.steps;
-    let mut j = 0;
-    while j < n {
-        if !is_equal(cost_at(image, z, i, j), cost_at(image, z, j, i)) {
-            return false;
-        }
-        j += 1;
-    }
-    true
+    (0..z.command_count()).all(|j| cost_at(image, z, i, j) == cost_at(image, z, j, i))
 }

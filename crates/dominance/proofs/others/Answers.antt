@@ -1,32 +1,33 @@
-use native.Mathlib.Omega.{arith}
-use native.Mathlib.Numerals.{add-one}
-use mathlib.Core.Path.{◌≡◌, ap, ◌∙◌}
-use Rattle.interface.specs.Tables.{others_of}
+use Rattle.std.proofs.Common.{arith, ◌≡◌, ℕ, ℤ, ◌+◌, nat_abs, sym, ap, add-one, ◌∙◌}
+use borrow.Author.Tests.{eq-eqb, ne_eqb}
+use Rattle.integer.proofs.Machine.{back}
+use Rattle.dominance.specs.Others.{others_in}
+use Rattle.dominance.proofs.others.Goals.{then-j-i, else-j-i}
 use Rattle.dominance.proofs.others.Goals as goal
 
-pub loop-j-init : goal.loop-j-init
-loop-j-init c = (omega arith, (omega arith, omega arith))
+-- one entry more, and the diagonal's
+more : (row : ℕ → ℤ) (i j s m : ℕ) (x : ℤ) → s ≡ others_in row i j → (j ≡ i → ⊥) → m ≡ nat_abs x → x ≡ row j → s + m ≡ others_in row i (j + 1)
+more row i j s m x e d a h = rw (add-one j, ne_eqb i j (λ q. d (sym q))) (cc)
 
-pub other_at-s-requires : goal.other_at-s-requires
-other_at-s-requires c = omega arith
-
-pub overflow_add-s : goal.overflow_add-s
-overflow_add-s c = omega (arith, c.other_at-s.ensures.1)
-
-pub overflow_add-j : goal.overflow_add-j
-overflow_add-j c = omega arith
-
-pub loop-j-smaller : goal.loop-j-smaller
-loop-j-smaller c = omega arith
+over : (row : ℕ → ℤ) (i j s : ℕ) → s ≡ others_in row i j → j ≡ i → s ≡ others_in row i (j + 1)
+over row i j s e d = rw (add-one j, eq-eqb i j (sym d)) (omega (arith, e))
 
 pub loop-j-preserved : goal.loop-j-preserved
-loop-j-preserved c =
+loop-j-preserved g c =
     let l = c.loop-j in
-    (omega arith, (rw (add-one l.j) (cc (l.invariant.1.0, c.other_at-s.ensures.0)), omega (arith, c.other_at-s.ensures.1)))
+    elim c.if-j-i.branch [
+      | then-j-i w ↦
+          let x = w.entry.result in
+          let size : w.unsigned_abs-sum.result ≡ nat_abs x = w.unsigned_abs-sum.ensures.value ∙ ap nat_abs (back x w.entry.type_inv) in (
+            omega (arith, size, c.requires.small l.j x (omega arith) w.entry.ensures),
+            λ row h. w.sum-is ∙ more row c.args.i l.j l.sum _ x (l.invariant.1 row (λ k y b q. h k y (omega arith) q)) (λ q. omega arith) size (h l.j x (omega arith) w.entry.ensures),
+          )
+      | else-j-i w ↦
+          (omega arith, λ row h. w.sum-is ∙ over row c.args.i l.j l.sum (l.invariant.1 row (λ k y b q. h k y (omega arith) q)) w.if-j-i.false)
+    ]
 
-pub returns : goal.returns
-returns c =
-    let a = c.args in
+pub returns-clause-sum : goal.returns-clause-sum
+returns-clause-sum g c row h =
     let l = c.loop-j in
-    let e : l.j ≡ a.n = omega arith in
-    (l.invariant.1.0 ∙ ap (others_of a.row.now a.i) e, omega arith)
+    let e : l.j ≡ c.args.n = omega arith in
+    l.invariant.1 row (λ k x b q. h k x (omega arith) q) ∙ ap (others_in row c.args.i) e

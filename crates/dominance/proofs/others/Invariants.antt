@@ -1,10 +1,7 @@
-use mathlib.Core.Path.{◌≡◌}
-use Prim.Native.Nat.{◌*◌, ◌^◌, ◌-◌, ◌≤◌}
-use Rattle.interface.specs.Tables.{others_of}
+use Rattle.std.specs.Prelude.{◌≡◌, ℕ, ℤ, ◌*◌, ◌^◌, ◌≤◌}
+use Rattle.dominance.specs.Others.{others_in, Answers}
 use Rattle.dominance.proofs.others.Given as goal
 
 abbrev pub invariant-loop-j : goal.invariant-loop-j
-invariant-loop-j l = (l.j ≤ l.n) × ((l.s ≡ others_of l.row l.i l.j) × (l.s ≤ l.j * 2 ^ 31))
-
-abbrev pub decreases-loop-j : goal.decreases-loop-j
-decreases-loop-j l = l.n - l.j
+invariant-loop-j g l =
+    (l.sum ≤ l.j * 2 ^ 53) × ((row : ℕ → ℤ) → Answers (goal.F-post g l.entry) row l.j → l.sum ≡ others_in row l.i l.j)

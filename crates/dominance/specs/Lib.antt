@@ -1,0 +1,2 @@
+-- A sum over a row.
+pub mod Others
