@@ -1,14 +1,10 @@
 -- Check 11: how large β, the margins and the totals are once the checks before have passed. Assumes nothing.
-use mathlib.Core.Path.{◌≡◌, refl}
-use mathlib.Core.Bool.{Bool, true, false}
 use mathlib.Core.List.{List}
 use Prim.Native.Nat.{ℕ, ◌+◌, ◌-◌, ◌^◌, ◌≤◌, ◌<◌}
 use native.Mathlib.Omega.{arith}
-use lib.Dec.{leb, ltb}
-use lib.IntN.{ℤ, pos, negsuc, nat_abs}
+use lib.IntN.{ℤ, pos, nat_abs}
 use lib.Pow.{pow_mono}
-use lib.Signed.{lt_z, le_z, le_z_yes}
-use borrow.Author.Tests.{leb-true, leb-false, lt-ltb, le-ltb}
+use lib.Signed.{le_z, le_z_yes}
 use Rattle.integer.specs.Parts.{up, dn, int, nat, ◌⊕◌, ◌⊖◌}
 use Rattle.integer.proofs.Parts.{le?, abs! }
 use Rattle.integer.proofs.Tests.{of_true, both}
@@ -20,15 +16,6 @@ use Rattle.interface.specs.Tables.{margin_test, total_test, others_at, margin_at
 use Rattle.momentum.specs.declared.Extremes.{Extremes}
 use Rattle.momentum.specs.Ready.{MomentumReady}
 use Rattle.momentum.proofs.Least.{least_one, largest_one}
-
--- below k is at most k − 1
-pub lt_less : (m : ℤ) (k : ℕ) → 0 < k → lt_z m (pos k) ≡ le_z m (pos (k - 1))
-lt_less (pos a) k h = by (leb a (k - 1)) refl
-  where
-    by : (t : Bool) → leb a (k - 1) ≡ t → ltb a k ≡ t
-    by true e = lt-ltb a k (omega (arith, leb-true a (k - 1) e))
-    by false e = le-ltb a k (omega (arith, leb-false a (k - 1) e))
-lt_less (negsuc a) k h = refl
 
 module _ (z : Sizes) (s : List ℕ) (x : Extremes) (r : MomentumReady z s x) where
   power : 2 ^ z.b ≤ 2 ^ 20

@@ -3,7 +3,7 @@
 
 ghost use Rattle.std.specs.Prelude.{◌≡◌, ◌^◌, ◌≤◌, nat_abs, ◌*ℤ◌};
 ghost use Rattle.image.specs.Sizes.{Whole};
-ghost use Rattle.interface.specs.Tables.{min_z, max_z, least_margin, largest_total, momentum_range, momentum_ratio};
+ghost use Rattle.interface.specs.Tables.{least_margin, largest_total, momentum_range, momentum_ratio};
 ghost use Rattle.momentum.specs.Ready.{MomentumReady};
 
 use image::Sizes;
@@ -15,40 +15,20 @@ pub struct Extremes {
     pub total: i64,
 }
 
-// The lesser of two.
-fn lesser(a: i64, c: i64) -> i64
-    ensures { result ≡ min_z a c }
-{
-    if a <= c { a } else { c }
-}
-
-// The greater of two.
-fn greater(a: i64, c: i64) -> i64
-    ensures { result ≡ max_z a c }
-{
-    if c <= a { a } else { c }
-}
-
 // The first row, and then each row after it.
 pub fn extremes_of(image: &[u8], z: Sizes) -> Extremes
     requires { Whole z image.now }
     ensures { (result.margin ≡ least_margin z image.now) × (result.total ≡ largest_total z image.now) }
 {
-    let n = z.nu * z.steps;
     let first = dominance::disc_of(image, z, 0);
-    let mut least = first.margin;
-    let mut largest = first.total;
-    let mut i = 1;
-    while i < n {
+    let mut margin = first.margin;
+    let mut total = first.total;
+    for i in 1..z.command_count() {
         let row = dominance::disc_of(image, z, i);
-        least = lesser(least, row.margin);
-        largest = greater(largest, row.total);
-        i += 1;
+        margin = margin.min(row.margin);
+        total = total.max(row.total);
     }
-    Extremes {
-        margin: least,
-        total: largest,
-    }
+    Extremes { margin, total }
 }
 
 // a² × c.
@@ -65,10 +45,7 @@ pub fn is_momentum(image: &[u8], z: Sizes) -> bool
     ensures { result ≡ momentum_range z image.now }
 {
     let m = image::momentum_at(image, z);
-    if m < 0 {
-        return false;
-    }
-    m < dominance::power(z.b)
+    0 <= m && m < dominance::power(z.b)
 }
 
 // The ratio of 11 by the extremes x. Its products fit 64 bits because β is in its range and 9 and 10 have passed: margins and totals are then from 1 to 2^b.
