@@ -1,6 +1,6 @@
 use native.Mathlib.Omega.{arith}
 use native.Mathlib.Nat.{zero-add}
-use mathlib.Core.Path.{◌≡◌, refl, ap, ◌∙◌}
+use mathlib.Core.Path.{◌≡◌, ap, ◌∙◌}
 use Prim.Native.Nat.{ℕ, ◌+◌, ◌*◌, ◌^◌, ◌≤◌}
 use lib.IntN.{ℤ, nat_abs, ◌+ℤ◌, ◌*ℤ◌}
 use mir.Syntax.{w64}
@@ -43,7 +43,7 @@ module _ (c : After-word_at-in-loop-k) where
   fits = sfits_abs p small (omega arith)
 
   next : to_z w64 s +ℤ p ≡ sum_z term 0 (k + 1)
-  next = rw (sum_z_next term 0 k, zero-add k) (cc (c.loop-k.invariant.1.0, is-term))
+  next = rw (sum_z_next term 0 k, zero-add k) (cc (c.loop-k.invariant.0, is-term))
 
   sum-small : nat_abs (to_z w64 s +ℤ p) ≤ (k + 1) * 2 ^ 40
   sum-small = omega (arith, abs_add (to_z w64 s) p, small)
@@ -51,47 +51,20 @@ module _ (c : After-word_at-in-loop-k) where
   sum_fits : SFits w64 (to_z w64 s +ℤ p)
   sum_fits = sfits_abs (to_z w64 s +ℤ p) sum-small (omega (arith, a.requires.0.few))
 
-pub loop-k-init : goal.loop-k-init
-loop-k-init c = (omega arith, (refl, omega arith))
-
-pub overflow_mul-k : goal.overflow_mul-k
-overflow_mul-k c = omega (arith, c.requires.0.few)
-
-pub overflow_add-x : goal.overflow_add-x
-overflow_add-x c = let r = c.requires.0 in omega (arith, r.within, r.size)
-
-pub word_at-requires : goal.word_at-requires
-word_at-requires c = omega (arith, c.requires.0.within)
-
-pub overflow_mul-k-in-loop-k : goal.overflow_mul-k-in-loop-k
-overflow_mul-k-in-loop-k c = omega (arith, c.requires.0.few)
-
-pub overflow_add-y : goal.overflow_add-y
-overflow_add-y c = let r = c.requires.1 in omega (arith, r.within, r.size)
-
-pub word_at-requires-in-loop-k : goal.word_at-requires-in-loop-k
-word_at-requires-in-loop-k c = omega (arith, c.requires.1.within)
-
 pub overflow_mul-s : goal.overflow_mul-s
 overflow_mul-s c = rw (back c.word_at.result c.word_at.type_inv, back c.word_at-in-loop-k.result c.word_at-in-loop-k.type_inv) (fits c)
 
 pub overflow_add-s : goal.overflow_add-s
 overflow_add-s c = rw (back c.word_at.result c.word_at.type_inv, back c.word_at-in-loop-k.result c.word_at-in-loop-k.type_inv, to_z-of_z (fits c)) (sum_fits c)
 
-pub overflow_add-k : goal.overflow_add-k
-overflow_add-k c = omega (arith, (a c).requires.0.few)
-
-pub loop-k-smaller : goal.loop-k-smaller
-loop-k-smaller c = omega arith
-
 pub loop-k-preserved : goal.loop-k-preserved
 loop-k-preserved c =
     rw (back c.word_at.result c.word_at.type_inv, back c.word_at-in-loop-k.result c.word_at-in-loop-k.type_inv, to_z-of_z (fits c), to_z-of_z (sum_fits c))
-    (omega arith, (next c, sum-small c))
+    (next c, sum-small c)
 
 pub returns : goal.returns
 returns c =
     let a = c in
     let l = c.loop-k in
     let e : l.k ≡ a.args.count = omega arith in
-    (l.invariant.1.0 ∙ ap (sum_z (term_at a.args.factors.now a.args.x a.args.y) 0) e, omega (arith, a.requires.0.few))
+    (l.invariant.0 ∙ ap (sum_z (term_at a.args.factors.now a.args.x a.args.y) 0) e, omega (arith, a.requires.0.few))
