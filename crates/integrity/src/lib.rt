@@ -2,31 +2,30 @@
 #![tactic(auto)]
 
 ghost use Rattle.std.specs.Prelude.{◌≡◌};
+ghost use Rattle.refusal.specs.Number.{number_of};
 ghost use Rattle.gradient.specs.Index.{all_to};
 ghost use Rattle.image.specs.Sizes.{Whole, input_count, body_count};
 ghost use Rattle.image.specs.Checks.{head_number, word_test, limit_test, body_number};
 
 use image::{Input, Sizes};
+use refusal::Refusal;
 
 // Checks 6, 3 and 6.
-pub fn head_number(image: &[u8]) -> u32
-    ensures { result ≡ head_number image.now }
+#[tactic(auto, using(image::proofs::Sized::sound_facts), unfolding(image::specs::Checks::head_number))]
+pub fn check_head(image: &[u8]) -> Result<(), Refusal>
+    ensures { number_of result ≡ head_number image.now }
 {
     if image.len() < 32 {
-        return 6;
+        return Err(Refusal::Length);
     }
     let z = image::sizes_of(image);
-    if !image::is_sound(z) {
-        return 3;
+    if !z.is_sound() || word::nat_at(image, 28) != 0 {
+        return Err(Refusal::Size);
     }
-    if word::nat_at(image, 28) != 0 {
-        return 3;
+    if image.len() != 4 * (8 + z.body_count()) {
+        return Err(Refusal::Length);
     }
-    if image.len() == 4 * (8 + image::body_count(z)) {
-        0
-    } else {
-        6
-    }
+    Ok(())
 }
 
 // Whether each word after the first eight is a word of w bits.
@@ -34,15 +33,7 @@ fn words_pass(image: &[u8], z: Sizes) -> bool
     requires { Whole z image.now }
     ensures { result ≡ all_to (word_test z image.now) (body_count z) }
 {
-    let count = image::body_count(z);
-    let mut i = 0;
-    while i < count {
-        if !word::is_word(word::word_at(image, 4 * (8 + i)), z.w) {
-            return false;
-        }
-        i += 1;
-    }
-    true
+    (0..z.body_count()).all(|i| word::is_word(word::word_at(image, 4 * (8 + i)), z.w))
 }
 
 // Whether no limit of an input is negative.
@@ -50,31 +41,21 @@ fn limits_pass(image: &[u8], z: Sizes, v: Input) -> bool
     requires { Whole z image.now }
     ensures { result ≡ all_to (limit_test v z image.now) (input_count v z) }
 {
-    let count = image::input_count(z, v);
-    let mut j = 0;
-    while j < count {
-        if image::limit_at(image, z, v, j) < 0 {
-            return false;
-        }
-        j += 1;
-    }
-    true
+    (0..z.input_count(v)).all(|j| 0 <= image::limit_at(image, z, v, j))
 }
 
 // Check 5.
-pub fn body_number(image: &[u8], z: Sizes) -> u32
+#[tactic(auto, unfolding(image::specs::Checks::body_number))]
+pub fn check_body(image: &[u8], z: Sizes) -> Result<(), Refusal>
     requires { Whole z image.now }
-    ensures { result ≡ body_number z image.now }
+    ensures { number_of result ≡ body_number z image.now }
 {
-    if !words_pass(image, z) {
-        return 5;
-    }
-    if !limits_pass(image, z, Input::State) {
-        return 5;
-    }
-    if limits_pass(image, z, Input::Target) {
-        0
+    if words_pass(image, z)
+        && limits_pass(image, z, Input::State)
+        && limits_pass(image, z, Input::Target)
+    {
+        Ok(())
     } else {
-        5
+        Err(Refusal::Word)
     }
 }
