@@ -16,7 +16,7 @@ pub fn size(x: i64) -> u64
     requires { SFits w32 x }
     ensures { (result ≡ nat_abs x) × (result ≤ 2 ^ 31) }
 {
-    integer::magnitude(x)
+    x.unsigned_abs()
 }
 
 // The magnitude of β's word.
@@ -24,31 +24,31 @@ pub fn momentum_size(image: &[u8], z: Sizes) -> u64
     requires { Whole z image.now }
     ensures { (result ≡ nat_abs (momentum_at z image.now)) × (result ≤ 2 ^ 31) }
 {
-    size(image::momentum_at(image, z))
+    image::momentum_at(image, z).unsigned_abs()
 }
 
 // zb of command k: the larger magnitude of its limits.
+#[tactic(auto, unfolding(gradient::specs::Bounds::magnitude, image::specs::Layout::command_at))]
 fn largest_limit(image: &[u8], z: Sizes, k: usize) -> u64
     requires { Whole z image.now × (k < command_count z) }
     ensures { (result ≡ magnitude (command_at z image.now k)) × (result ≤ 2 ^ 31) }
 {
-    let low = size(image::lower_at(image, z, k));
-    let high = size(image::upper_at(image, z, k));
-    if low < high {
-        return high;
-    }
-    low
+    let low = image::lower_at(image, z, k).unsigned_abs();
+    let high = image::upper_at(image, z, k).unsigned_abs();
+    low.max(high)
 }
 
 // w of command k: its high less its low.
+#[tactic(auto, using(crate::proofs::Bounds::width_most), unfolding(gradient::specs::Bounds::width, image::specs::Layout::command_at))]
 pub fn limit_width(image: &[u8], z: Sizes, k: usize) -> u64
     requires { Whole z image.now × (k < command_count z) }
     ensures { (result ≡ width (command_at z image.now k)) × (result < 2 ^ 32) }
 {
-    integer::magnitude(image::upper_at(image, z, k) - image::lower_at(image, z, k))
+    image::upper_at(image, z, k).abs_diff(image::lower_at(image, z, k))
 }
 
 // zb + β × x / 2^b of command k: P with zb as x, Y with w.
+
 fn range_bound(image: &[u8], z: Sizes, k: usize, x: u64) -> u64
     requires { Whole z image.now × (k < command_count z) × (x < 2 ^ 32) }
     ensures { result ≡ magnitude (command_at z image.now k) + ceil (nat_abs (momentum_at z image.now) * x) (2 ^ z.b) }
@@ -59,6 +59,7 @@ fn range_bound(image: &[u8], z: Sizes, k: usize, x: u64) -> u64
 }
 
 // P of command k.
+#[tactic(auto, unfolding(gradient::specs::Problem::F, gradient::specs::Bounds::range_p, image::specs::Layout::problem_at))]
 pub fn range_p(image: &[u8], z: Sizes, k: usize) -> u64
     requires { Whole z image.now × (k < command_count z) }
     ensures { result ≡ range_p (problem_at z image.now) (command_at z image.now k) }
@@ -67,6 +68,7 @@ pub fn range_p(image: &[u8], z: Sizes, k: usize) -> u64
 }
 
 // Y of command k.
+#[tactic(auto, unfolding(gradient::specs::Problem::F, gradient::specs::Bounds::range_y, image::specs::Layout::problem_at))]
 pub fn range_y(image: &[u8], z: Sizes, k: usize) -> u64
     requires { Whole z image.now × (k < command_count z) }
     ensures { result ≡ range_y (problem_at z image.now) (command_at z image.now k) }
