@@ -9,7 +9,9 @@ use native.Mathlib.Numerals.{add-one}
 use native.Mathlib.Omega.{arith}
 use lib.Dec.{T, leb, ltb}
 use lib.ListN.{length, get_or, take, drop, set, length-drop, get_or-eq_default}
-use lib.Seq.{take_at, get_or-drop}
+use lib.Seq.{take_at, take-suc, get_or-drop}
+use Rattle.std.specs.List.{list_all}
+use Rattle.std.proofs.lemmas.List.Folds.{list_all-append}
 use borrow.Author.Count.{below_more}
 use borrow.Author.Tests.{le-leb, lt-leb, lt-ltb, le-ltb, ltb-true, ltb-false}
 use mir.Facts.{or_yes, and_yes, leb_yes}
@@ -49,14 +51,6 @@ letter_value c h l = let m : 57 < c = omega arith in rw (digit_hex (letter h l),
 pub other_value : (c : ℕ) → is_hex c ≡ false → digit_of c ≡ 0
 unfolding digit_of
 other_value c h = rw h
-
-pub low_digit : {c : ℕ} → Digit c → c ≤ 57 → 48 ≤ c
-low_digit (figure h l) m = h
-low_digit (letter h l) m = omega arith
-
-pub high_digit : {c : ℕ} → Digit c → 57 < c → (65 ≤ c) × (c ≤ 70)
-high_digit (figure h l) m = absurd (omega arith)
-high_digit (letter h l) m = (h, l)
 
 value_lt : {c : ℕ} → Digit c → digit_of c < 16
 value_lt {c} (figure h l) = omega (arith, figure_value c h l)
@@ -99,10 +93,6 @@ both : (a b : Bool) → a && b ≡ true → (a ≡ true) × (b ≡ true)
 both true b h = (refl, h)
 both false b h = absurd (false≢true h)
 
-pub hexes_more : (k : ℕ) (s : List ℕ) (at : ℕ) → hexes (k + 1) s at ≡ hexes k s at && is_hex (get_or s (at + k) 0)
-unfolding hexes
-hexes_more k s at = rw (add-one k)
-
 -- every one of them is a digit
 pub hexes_at : (k : ℕ) (s : List ℕ) (at i : ℕ) → hexes k s at ≡ true → i < k → is_hex (get_or s (at + i) 0) ≡ true
 unfolding hexes
@@ -128,6 +118,14 @@ hexes_not k s at i l h = by (hexes k s at) refl
     by : (b : Bool) → hexes k s at ≡ b → b ≡ false
     by true e = absurd (false≢true (sym h ∙ hexes_at k s at i e l))
     by false e = refl
+
+-- as a chain over the part answers them
+pub list_all_hex : (k : ℕ) (s : List ℕ) (at : ℕ) → at + k ≤ length s → list_all is_hex (take k (drop at s)) ≡ hexes k s at
+unfolding hexes
+list_all_hex zero s at h = refl
+list_all_hex (suc k) s at h =
+    rw (take-suc (drop at s) k 0 (omega (arith, length-drop at s)), list_all-append is_hex (take k (drop at s)) (get_or (drop at s) k 0 ∷ []), list_all_hex k s at (omega arith), get_or-drop at s k 0, and-true (is_hex (get_or s (at + k) 0)))
+    refl
 
 -- the list ends before them, or it does not
 pub hexes_cut : (k : ℕ) (s : List ℕ) (at : ℕ) → zero < k → length s < at + k → hexes k s at ≡ false

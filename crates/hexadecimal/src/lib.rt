@@ -6,35 +6,19 @@ ghost use Rattle.word.specs.Buffer.{put_at};
 ghost use Rattle.hexadecimal.specs.Hex.{is_hex, digit_of, hexes, hex_at, digit_byte, hex_digits};
 
 // Whether a byte is a hexadecimal digit, 0 to 9 or A to F.
+#[tactic(auto, unfolding(crate::specs::Hex::is_hex))]
 pub fn is_hex(c: u8) -> bool
     ensures { result ≡ is_hex c }
 {
-    if c < 48 {
-        return false;
-    }
-    if c <= 57 {
-        return true;
-    }
-    if c < 65 {
-        return false;
-    }
-    c <= 70
+    matches!(c, b'0'..=b'9' | b'A'..=b'F')
 }
 
 // Whether the k bytes from `at` on are there and are digits.
+#[tactic(auto, using(crate::proofs::Hex::hexes_cut), unfolding(crate::specs::Hex::hexes))]
 pub fn are_hex(s: &[u8], at: usize, k: usize) -> bool
     ensures { result ≡ hexes k s.now at }
 {
-    if k == 0 {
-        return true;
-    }
-    if s.len() < k {
-        return false;
-    }
-    if s.len() - k < at {
-        return false;
-    }
-    all_hex(s, at, k)
+    k == 0 || (k <= s.len() && at <= s.len() - k && all_hex(s, at, k))
 }
 
 // The same of bytes that are there.
@@ -42,27 +26,18 @@ fn all_hex(s: &[u8], at: usize, k: usize) -> bool
     requires { at + k ≤ length s.now }
     ensures { result ≡ hexes k s.now at }
 {
-    let mut i: usize = 0;
-    while i < k {
-        if !is_hex(s[at + i]) {
-            return false;
-        }
-        i += 1;
-    }
-    true
+    s[at..at + k].iter().all(|c| is_hex(*c))
 }
 
 // The value of a digit; 0 for any other byte.
+#[tactic(auto, unfolding(crate::specs::Hex::is_hex, crate::specs::Hex::digit_of))]
 pub fn digit(c: u8) -> u64
     ensures { (result ≡ digit_of c) × (result < 16) }
 {
-    if !is_hex(c) {
-        return 0;
-    }
-    if c <= 57 {
-        word::wide(c) - 48
-    } else {
-        word::wide(c) - 55
+    match c {
+        b'0'..=b'9' => u64::from(c - b'0'),
+        b'A'..=b'F' => u64::from(c - b'A') + 10,
+        _ => 0,
     }
 }
 
@@ -72,24 +47,20 @@ pub fn hex_at(s: &[u8], at: usize, k: usize) -> u64
     ensures { (result ≡ hex_at k s.now at) × (result < 16 ^ k) }
 {
     let mut n: u64 = 0;
-    let mut i: usize = 0;
-    while i < k {
+    for i in 0..k {
         n = n * 16 + digit(s[at + i]);
-        i += 1;
     }
     n
 }
 
 // The byte of a digit.
+#[tactic(auto, unfolding(crate::specs::Hex::digit_byte))]
 pub fn digit_byte(d: u64) -> u8
     requires { d < 16 }
     ensures { result ≡ digit_byte d }
 {
-    if d < 10 {
-        (48 + d) as u8
-    } else {
-        (55 + d) as u8
-    }
+    let d = d as u8;
+    if d < 10 { b'0' + d } else { b'A' + (d - 10) }
 }
 
 // The last k digits of n are written, the last one first.
@@ -98,10 +69,8 @@ pub fn put_hex(out: &mut [u8], at: usize, k: usize, n: u64)
     ensures { out.new ≡ put_at out.old at (hex_digits k n) }
 {
     let mut m = n;
-    let mut i = k;
-    while 0 < i {
-        i -= 1;
+    for i in (0..k).rev() {
         out[at + i] = digit_byte(m % 16);
-        m = m / 16;
+        m /= 16;
     }
 }

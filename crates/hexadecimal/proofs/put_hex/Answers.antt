@@ -1,5 +1,5 @@
 -- `hexadecimal::put_hex` meets its contract. The invariant: the digits left to write make the whole number. Assumes nothing.
-use mathlib.Core.Path.{◌≡◌, refl, sym, ap, ◌∙◌}
+use mathlib.Core.Path.{◌≡◌, sym, ap, ◌∙◌}
 use Prim.Native.Nat.{ℕ, suc, ◌-◌}
 use native.Mathlib.Omega.{arith}
 use lib.ListN.{length-set}
@@ -10,37 +10,15 @@ use Rattle.hexadecimal.specs.Hex.{hex_digits}
 use Rattle.hexadecimal.proofs.Hex.{put_more}
 use Rattle.hexadecimal.proofs.put_hex.Goals as goal
 
-pub loop-i-init : goal.loop-i-init
-loop-i-init c = (omega arith, refl, refl)
-
-pub overflow_sub-i : goal.overflow_sub-i
-overflow_sub-i c = omega arith
-
-pub digit_byte-requires : goal.digit_byte-requires
-digit_byte-requires c = omega arith
-
-pub overflow_add-out : goal.overflow_add-out
-overflow_add-out c = omega arith
-
-pub bounds-out-at : goal.bounds-out-at
-bounds-out-at c = omega arith
-
-pub loop-i-smaller : goal.loop-i-smaller
-loop-i-smaller c = omega arith
-
 pub loop-i-preserved : goal.loop-i-preserved
 loop-i-preserved c =
     let l = c.loop-i in
     let a = c.args in
     let j = l.i - 1 in
     let e : suc j ≡ l.i = omega arith in (
-      omega arith,
-      simp length-set l.invariant.1,
-      rw c.digit_byte.ensures (put_more l.out a.at j l.m (omega arith)) ∙ ap (λ (i : ℕ). put_at l.out a.at (hex_digits i l.m)) e ∙ l.invariant.2,
+      simp length-set l.invariant.0,
+      rw c.digit_byte.ensures (put_more l.out a.at j l.m (omega arith)) ∙ ap (λ (i : ℕ). put_at l.out a.at (hex_digits i l.m)) e ∙ l.invariant.1,
     )
-
-pub shape_of-out : goal.shape_of-out
-shape_of-out c = c.loop-i.invariant.1
 
 pub returns : goal.returns
 unfolding hex_digits digits_be
@@ -48,4 +26,4 @@ returns c =
     let l = c.loop-i in
     let a = c.args in
     let e : l.i ≡ 0 = omega arith in
-    sym (put_nothing l.out a.at) ∙ ap (λ (i : ℕ). put_at l.out a.at (hex_digits i l.m)) (sym e) ∙ l.invariant.2
+    sym (put_nothing l.out a.at) ∙ ap (λ (i : ℕ). put_at l.out a.at (hex_digits i l.m)) (sym e) ∙ l.invariant.1

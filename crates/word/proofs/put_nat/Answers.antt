@@ -1,20 +1,14 @@
-use Prim.Native.Nat.{◌/◌, ◌%◌}
 use native.Mathlib.Omega.{arith}
-use lib.ListN.{length-set}
-use Rattle.word.proofs.Buffer.{put4}
-use Rattle.word.proofs.Words.{bytes_four}
+use mathlib.Core.Path.{◌≡◌, ◌∙◌}
+use Prim.Native.Nat.{◌+◌, ◌-◌}
+use Rattle.word.specs.Word.{bytes_of}
+use Rattle.word.proofs.Buffer.{part_written}
+use Rattle.word.proofs.Words.{bytes_four, length_bytes}
 use Rattle.word.proofs.put_nat.Goals as goal
-
-pub bounds-out-at-2 : goal.bounds-out-at-2
-bounds-out-at-2 c = simp length-set (omega arith)
-
-pub bounds-out-at-3 : goal.bounds-out-at-3
-bounds-out-at-3 c = simp length-set (omega arith)
-
-pub bounds-out-at-4 : goal.bounds-out-at-4
-bounds-out-at-4 c = simp length-set (omega arith)
 
 pub returns : goal.returns
 returns c =
-    let u = c.args.u in
-    rw (bytes_four u) (put4 c.args.out.now c.args.at (u / 16777216 % 256) (u / 65536 % 256) (u / 256 % 256) (u % 256) c.requires)
+    let a = c.args in
+    let e : a.at + 4 - a.at ≡ 4 = omega arith in
+    let b : c.copy_from_slice.new.self ≡ bytes_of a.u = c.copy_from_slice.ensures.after ∙ c.to_be_bytes.ensures ∙ bytes_four a.u in
+    rw (b, e) (part_written a.out.now a.at (bytes_of a.u) 4 (length_bytes 4 a.u))
