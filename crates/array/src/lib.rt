@@ -35,11 +35,9 @@ pub fn words_of(s: &[u8], n: usize) -> [i64; 16]
     requires { (n ≤ 16) × (4 * n ≤ length s.now) }
     ensures { Filled (pos 0) n (λ i. word_at s.now (4 * i)) result × WordsTo n result }
 {
-    let mut r = blank();
-    let mut i = 0;
-    while i < n {
+    let mut r = [0; 16];
+    for i in 0..n {
         r[i] = word::word_at(s, 4 * i);
-        i += 1;
     }
     r
 }
