@@ -19,10 +19,8 @@ fn rest(r: &[i64; 16], y: &[i64; 16], a: usize, n: usize) -> i64
     ensures { result ≡ sum_z (product_at r.now y.now) a n }
 {
     let mut x = 0i64;
-    let mut k = 0;
-    while k < n {
+    for k in 0..n {
         x += product(r, y, a + k);
-        k += 1;
     }
     x
 }

@@ -26,10 +26,8 @@ fn rest(r: &[u64; 16], q: &[u64; 16], a: usize, n: usize) -> u64
     ensures { weight_to r.now q.now a + result ≡ weight_to r.now q.now (a + n) }
 {
     let mut w = 0u64;
-    let mut k = 0;
-    while k < n {
+    for k in 0..n {
         w += term(r, q, a + k);
-        k += 1;
     }
     w
 }

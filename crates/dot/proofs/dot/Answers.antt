@@ -1,12 +1,12 @@
 -- Each term stands behind the sum of those before it. Assumes nothing.
 use native.Mathlib.Omega.{arith}
-use mathlib.Core.Path.{◌≡◌, refl, ap, ◌∙◌}
+use mathlib.Core.Path.{◌≡◌, ap, ◌∙◌}
 use Prim.Native.Nat.{ℕ, ◌+◌, ◌%◌, ◌<◌}
 use lib.IntN.{ℤ, ◌+ℤ◌}
 use mir.Syntax.{w64}
 use mir.Val.{to_z}
 use Rattle.gradient.specs.Index.{sum_z, product_at}
-use Rattle.dot.proofs.Sums.{stored, IsSum, is_sum, single, join, part}
+use Rattle.dot.proofs.Sums.{stored, IsSum, is_sum, single, join}
 use Rattle.dot.proofs.dot.Goals.{After-product, After-product-in-loop-i, After-product-in-loop-i-2, After-product-in-loop-i-3, After-rest, In-loop-i, Start}
 use Rattle.dot.proofs.dot.Goals as goal
 
@@ -38,50 +38,11 @@ two c = more (goal.at.After-product-in-loop-i c).In-loop-i 1 (omega arith) (one 
 three : (c : After-product-in-loop-i-2) → Sums (goal.at.After-product-in-loop-i-2 c).In-loop-i 3 (stored (stored c.product.result +ℤ stored c.product-in-loop-i.result) +ℤ stored c.product-in-loop-i-2.result)
 three c = more (goal.at.After-product-in-loop-i-2 c).In-loop-i 2 (omega arith) (two (goal.at.After-product-in-loop-i-2 c).After-product-in-loop-i) c.product-in-loop-i-2.ensures
 
-pub loop-i-init : goal.loop-i-init
-loop-i-init c = (refl, omega arith, refl)
-
-pub overflow_add-i : goal.overflow_add-i
-overflow_add-i c = omega (arith, c.requires.few)
-
-pub overflow_add-a : goal.overflow_add-a
-overflow_add-a c = omega (arith, (s c).requires.few)
-
-pub product-requires : goal.product-requires
-product-requires c = part (s c).requires (omega arith)
-
-pub overflow_add-a-in-loop-i : goal.overflow_add-a-in-loop-i
-overflow_add-a-in-loop-i c = omega (arith, (s (goal.at.overflow_add-a-in-loop-i c).In-loop-i).requires.few)
-
-pub overflow_add-a-in-loop-i-2 : goal.overflow_add-a-in-loop-i-2
-overflow_add-a-in-loop-i-2 c = omega (arith, (s (goal.at.overflow_add-a-in-loop-i-2 c).In-loop-i).requires.few)
-
-pub product-requires-in-loop-i : goal.product-requires-in-loop-i
-product-requires-in-loop-i c = part (s (goal.at.product-requires-in-loop-i c).In-loop-i).requires (omega arith)
-
 pub overflow_add-x : goal.overflow_add-x
 overflow_add-x c = (two c).fits
 
-pub overflow_add-a-in-loop-i-3 : goal.overflow_add-a-in-loop-i-3
-overflow_add-a-in-loop-i-3 c = omega (arith, (s (goal.at.overflow_add-a-in-loop-i-3 c).In-loop-i).requires.few)
-
-pub overflow_add-a-in-loop-i-4 : goal.overflow_add-a-in-loop-i-4
-overflow_add-a-in-loop-i-4 c = omega (arith, (s (goal.at.overflow_add-a-in-loop-i-4 c).In-loop-i).requires.few)
-
-pub product-requires-in-loop-i-2 : goal.product-requires-in-loop-i-2
-product-requires-in-loop-i-2 c = part (s (goal.at.product-requires-in-loop-i-2 c).In-loop-i).requires (omega arith)
-
 pub overflow_add-x-in-loop-i : goal.overflow_add-x-in-loop-i
 overflow_add-x-in-loop-i c = (three c).fits
-
-pub overflow_add-a-in-loop-i-5 : goal.overflow_add-a-in-loop-i-5
-overflow_add-a-in-loop-i-5 c = omega (arith, (s (goal.at.overflow_add-a-in-loop-i-5 c).In-loop-i).requires.few)
-
-pub overflow_add-a-in-loop-i-6 : goal.overflow_add-a-in-loop-i-6
-overflow_add-a-in-loop-i-6 c = omega (arith, (s (goal.at.overflow_add-a-in-loop-i-6 c).In-loop-i).requires.few)
-
-pub product-requires-in-loop-i-3 : goal.product-requires-in-loop-i-3
-product-requires-in-loop-i-3 c = part (s (goal.at.product-requires-in-loop-i-3 c).In-loop-i).requires (omega arith)
 
 module _ (c : After-product-in-loop-i-3) where
   abbrev t : In-loop-i
@@ -102,20 +63,8 @@ overflow_add-x-in-loop-i-2 c = (four c).fits
 pub overflow_add-x-in-loop-i-3 : goal.overflow_add-x-in-loop-i-3
 overflow_add-x-in-loop-i-3 c = (all c).fits
 
-pub overflow_add-i-in-loop-i : goal.overflow_add-i-in-loop-i
-overflow_add-i-in-loop-i c = omega (arith, (s (t c)).requires.few)
-
-pub loop-i-smaller : goal.loop-i-smaller
-loop-i-smaller c = omega arith
-
 pub loop-i-preserved : goal.loop-i-preserved
 loop-i-preserved c = ((all c).is, omega arith, omega arith)
-
-pub overflow_add-a-2 : goal.overflow_add-a-2
-overflow_add-a-2 c = omega (arith, c.requires.few)
-
-pub rest-requires : goal.rest-requires
-rest-requires c = part c.requires (omega arith)
 
 -- the fours, and the rest behind them
 module _ (c : After-rest) where
