@@ -13,6 +13,7 @@ fn low(x: u64) -> u64
 }
 
 // Term j, a product.
+#[tactic(auto, unfolding(crate::specs::Sums::term_at))]
 fn term(r: &[u64; 16], q: &[u64; 16], j: usize) -> u64
     requires { Weighable r.now q.now (j + 1) }
     ensures { result ≡ term_at r.now q.now j }
@@ -21,6 +22,7 @@ fn term(r: &[u64; 16], q: &[u64; 16], j: usize) -> u64
 }
 
 // The sum of n terms from a on, one a turn.
+#[tactic(auto, using(crate::proofs::Sums::part))]
 fn rest(r: &[u64; 16], q: &[u64; 16], a: usize, n: usize) -> u64
     requires { Weighable r.now q.now (a + n) }
     ensures { weight_to r.now q.now a + result ≡ weight_to r.now q.now (a + n) }
@@ -34,6 +36,7 @@ fn rest(r: &[u64; 16], q: &[u64; 16], a: usize, n: usize) -> u64
 
 // The sum of the first n terms, four a turn and then the rest. The even terms and the odd ones are added apart: so the compiler keeps
 // the two sums side by side, as the products of two pairs are.
+#[tactic(auto, using(crate::proofs::Sums::part))]
 pub fn weight(r: &[u64; 16], q: &[u64; 16], n: usize) -> u64
     requires { Weighable r.now q.now n }
     ensures { result ≡ weight_to r.now q.now n }
