@@ -10,6 +10,10 @@ use lib.Seq.{get_or-set_other, set-get_or, ext_get_or}
 use Rattle.integer.proofs.Fill.{store_more}
 use Rattle.array.specs.Arrays.{Filled}
 
+-- one element more
+pub filled_more : {A : Type 0} (d : A) (f : ℕ → A) {i : ℕ} {l : List A} (v : A) → i < 16 → Filled d i f l → v ≡ f i → Filled d (i + 1) f (set l i v)
+filled_more d f {i} {l} v h s e = record { sized = length-set l i v ∙ s.sized; each = store_more (λ (k : ℕ) x. x ≡ f k) l i v d (omega (arith, s.sized)) s.each e }
+
 -- of the n elements that are to hold P, the first i do
 pub record Filling {A : Type 0} (d : A) (P : ℕ → A → Type 0) (n i : ℕ) (l : List A) : Type 0 where
   pub below : i ≤ n
@@ -30,45 +34,39 @@ pub full : {A : Type 0} (d : A) (f : ℕ → A) {n i : ℕ} {l : List A} → n �
 full d f h s = record { sized = s.sized; each = all d (λ (k : ℕ) x. x ≡ f k) h s }
 
 -- an array that a loop fills in place of what it held: from i on it is as it was
-pub record Replacing {A : Type 0} (d : A) (P : ℕ → A → Type 0) (n i : ℕ) (old l : List A) : Type 0 where
-  pub filling : Filling d P n i l
+pub record Replacing {A : Type 0} (d : A) (f : ℕ → A) (i : ℕ) (old l : List A) : Type 0 where
+  pub front : Filled d i f l
   pub rest : (k : ℕ) → i ≤ k → get_or l k d ≡ get_or old k d
 
-module _ {A : Type 0} (d : A) (P : ℕ → A → Type 0) where
-  pub replaced_none : (n : ℕ) (l : List A) → length l ≡ 16 → Replacing d P n 0 l l
-  replaced_none n l e = record { filling = none d P n l e; rest = λ k h. refl }
+pub replaced_none : {A : Type 0} (d : A) (f : ℕ → A) (l : List A) → length l ≡ 16 → Replacing d f 0 l l
+replaced_none d f l e = record { front = record { sized = e; each = λ k h. absurd (not-suc-le-zero h) }; rest = λ k h. refl }
 
-  pub replaced_more : {n i : ℕ} {old l : List A} (v : A) → n ≤ 16 → i < n → Replacing d P n i old l → P i v → Replacing d P n (i + 1) old (set l i v)
-  replaced_more {n} {i} {old} {l} v few h s e = record {
-    filling = more d P v few h s.filling e;
-    rest = λ k b. get_or-set_other l i k v d (λ q. omega arith) ∙ s.rest k (omega arith);
-  }
+pub replaced_more : {A : Type 0} (d : A) (f : ℕ → A) {i : ℕ} {old l : List A} (v : A) → i < 16 → Replacing d f i old l → v ≡ f i → Replacing d f (i + 1) old (set l i v)
+replaced_more d f {i} {old} {l} v h s e = record {
+  front = filled_more d f v h s.front e;
+  rest = λ k b. get_or-set_other l i k v d (λ q. omega arith) ∙ s.rest k (omega arith);
+}
 
 -- what is stored is what stood there, in an array that was as before
 pub stored_same : {A : Type 0} (d : A) {old l : List A} (i : ℕ) {v : A} → l ≡ old → v ≡ get_or l i d → set l i v ≡ old
 stored_same d {old} {l} i p e = ap (set l i) e ∙ set-get_or l i d ∙ p
 
 -- two arrays that a loop fills in place of what they held, and a flag: where it is true, both are as they were
-pub record Storing {A : Type 0} (d : A) (f g : ℕ → A) (n i : ℕ) (x₀ y₀ x y : List A) (same : Bool) : Type 0 where
-  pub first : Replacing d (λ (k : ℕ) (v : A). v ≡ f k) n i x₀ x
-  pub second : Replacing d (λ (k : ℕ) (v : A). v ≡ g k) n i y₀ y
+pub record Storing {A : Type 0} (d : A) (f g : ℕ → A) (i : ℕ) (x₀ y₀ x y : List A) (same : Bool) : Type 0 where
+  pub first : Replacing d f i x₀ x
+  pub second : Replacing d g i y₀ y
   pub kept : same ≡ true → (x ≡ x₀) × (y ≡ y₀)
 
-module _ {A : Type 0} (d : A) (f g : ℕ → A) where
-  pub storing_none : (n : ℕ) (x y : List A) (same : Bool) → length x ≡ 16 → length y ≡ 16 → Storing d f g n 0 x y x y same
-  storing_none n x y same e e' = record { first = replaced_none d _ n x e; second = replaced_none d _ n y e'; kept = λ p. (refl, refl) }
-
-  -- one more of each, the flag going through two tests
-  pub storing_more : {n i : ℕ} {x₀ y₀ x y : List A} {same then same' : Bool} (v w : A) → n ≤ 16 → i < n → Storing d f g n i x₀ y₀ x y same → v ≡ f i → w ≡ g i
-      → (then ≡ true → (same ≡ true) × (v ≡ get_or x i d)) → (same' ≡ true → (then ≡ true) × (w ≡ get_or y i d)) → Storing d f g n (i + 1) x₀ y₀ (set x i v) (set y i w) same'
-  storing_more {i = i} v w few h s p q a b = record {
-    first = replaced_more d _ v few h s.first p;
-    second = replaced_more d _ w few h s.second q;
-    kept = λ e. let new_y = b e in
-        let new-x = a new_y.0 in
-        let old = s.kept new-x.0 in
-        (stored_same d i old.0 new-x.1, stored_same d i old.1 new_y.1);
-  }
+-- one more of each, and a flag that says more
+pub storing_more : {A : Type 0} (d : A) (f g : ℕ → A) {i : ℕ} {x₀ y₀ x y : List A} {same same' : Bool} (v w : A) → i < 16 → Storing d f g i x₀ y₀ x y same → v ≡ f i → w ≡ g i
+    → (same' ≡ true → (same ≡ true) × ((v ≡ get_or x i d) × (w ≡ get_or y i d))) → Storing d f g (i + 1) x₀ y₀ (set x i v) (set y i w) same'
+storing_more d f g {i} v w h s p q a = record {
+  first = replaced_more d f v h s.first p;
+  second = replaced_more d g w h s.second q;
+  kept = λ e. let new = a e in
+      let old = s.kept new.0 in
+      (stored_same d i old.0 new.1.0, stored_same d i old.1 new.1.1);
+}
 
 -- two lists of n that one array holds
 pub same_held : {A : Type 0} (d : A) {n : ℕ} {l l' a a' : List A} → length l ≡ n → length l' ≡ n → Filled d n (λ (i : ℕ). get_or l i d) a → Filled d n (λ (i : ℕ). get_or l' i d) a' → a' ≡ a → l' ≡ l

@@ -5,6 +5,13 @@ ghost use Rattle.std.specs.Prelude.{◌≡◌, map, ◌*◌, ◌≤◌, length, 
 ghost use Rattle.word.specs.Word.{word_at, words_out};
 ghost use Rattle.array.specs.Arrays.{Filled, WordsTo};
 
+// A low and a high limit for each command.
+#[derive(Clone, Copy)]
+pub struct Limits {
+    pub lower: [i64; 16],
+    pub upper: [i64; 16],
+}
+
 // Zeros. As calls, they keep their literals out of the goals.
 pub fn blank() -> [i64; 16]
     ensures { length result ≡ 16 }

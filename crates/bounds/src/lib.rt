@@ -19,23 +19,10 @@ pub fn next_e(magnitudes: &[[u64; 16]; 16], t: BoundTerms, q: &[u64; 16], new: &
     requires { (Fitting t × WeightsTo t.n magnitudes.now q.now) × (length new.old ≡ 16) }
     ensures { Filled 0 t.n (e_at magnitudes.now t q.now) new.new }
 {
-    let n = t.n;
-    let mut i = 0;
-    while i < n {
-        let w = integer::ceil_div(weight::weight(&magnitudes[i], q, n), t.b) + 1;
-        new[i] = integer::smaller(t.width[i], w);
-        i += 1;
+    for i in 0..t.n {
+        let w = integer::ceil_div(weight::weight(&magnitudes[i], q, t.n), t.b) + 1;
+        new[i] = t.width[i].min(w);
     }
-}
-
-// True only where a number is as it was, and those before it were.
-fn stays(before: bool, new: u64, old: u64) -> bool
-    ensures { result ≡ true → (before ≡ true) × (new ≡ old) }
-{
-    if new != old {
-        return false;
-    }
-    before
 }
 
 // The new bounds in place of the old ones, and those of y. True only where nothing changed by that; false says nothing, and costs time alone.
@@ -43,16 +30,14 @@ pub fn store(t: BoundTerms, new: &[u64; 16], e: &mut [u64; 16], q: &mut [u64; 16
     requires { (Fitting t × NatsTo t.n new.now) × ((NatsTo t.n e.old × (length e.old ≡ 16)) × (length q.old ≡ 16)) }
     ensures { Stored t new.now e.old q.old e.new q.new result }
 {
-    let n = t.n;
     let mut same = true;
-    let mut i = 0;
-    while i < n {
+    for i in 0..t.n {
         let x = new[i];
         let v = x + integer::ceil_div(t.momentum * (x + e[i]), t.b) + 1;
-        same = stays(stays(same, x, e[i]), v, q[i]);
+        same &= x == e[i];
+        same &= v == q[i];
         e[i] = x;
         q[i] = v;
-        i += 1;
     }
     same
 }

@@ -12,7 +12,7 @@ unfoldable pub unclamped_of : CommandTerms → ℕ → ℤ → ℤ
 unclamped_of t i sum = floor sum (2 ^ t.b) -ℤ get_or t.linear i (pos 0)
 
 unfoldable pub command_of : CommandTerms → ℕ → ℤ → ℤ
-command_of t i sum = clamp (get_or t.lower i (pos 0)) (get_or t.upper i (pos 0)) (unclamped_of t i sum)
+command_of t i sum = clamp (get_or t.limits.lower i (pos 0)) (get_or t.limits.upper i (pos 0)) (unclamped_of t i sum)
 
 abbrev pub z_at : List (List ℤ) → CommandTerms → List ℤ → ℕ → ℤ
 z_at m t y i = command_of t i (sum_z (product_at (get_or m i []) y) 0 t.n)
@@ -31,8 +31,8 @@ pub record Fitting (t : CommandTerms) : Type 0 where
   pub low : 4 ≤ t.b
   pub high : t.b ≤ 20
   pub momentum_most : t.momentum < 2 ^ 20
-  pub lowers : WordsTo t.n t.lower
-  pub uppers : WordsTo t.n t.upper
+  pub lowers : WordsTo t.n t.limits.lower
+  pub uppers : WordsTo t.n t.limits.upper
   pub linears : WordsTo t.n t.linear
 
 -- each row's sums of neighbouring products of M y, undivided

@@ -7,11 +7,12 @@ ghost use Rattle.gradient.specs.Demand.{In64};
 ghost use Rattle.array.specs.Arrays.{Filled, WordsTo, RowsTo};
 ghost use Rattle.commands.specs.Steps.{point_of, z_at, Fitting, SumsTo, StoredY, StoredZ};
 
+use array::Limits;
+
 // What stays the same over the iterations, but for M.
 #[derive(Clone, Copy)]
 pub struct CommandTerms {
-    pub lower: [i64; 16],
-    pub upper: [i64; 16],
+    pub limits: Limits,
     pub linear: [i64; 16],
     pub momentum: u64,
     pub n: usize,
@@ -31,12 +32,9 @@ pub fn next_z(m: &[[i64; 16]; 16], t: CommandTerms, y: &[i64; 16], new: &mut [i6
     requires { (Fitting t × RowsTo t.n m.now) × ((WordsTo t.n y.now × SumsTo t.n m.now y.now) × (length new.old ≡ 16)) }
     ensures { Filled (pos 0) t.n (z_at m.now t y.now) new.new }
 {
-    let n = t.n;
-    let mut i = 0;
-    while i < n {
-        let sum = dot::dot(&m[i], y, 0, n);
-        new[i] = command(sum, t.linear[i], t.lower[i], t.upper[i], t.b);
-        i += 1;
+    for i in 0..t.n {
+        let sum = dot::dot(&m[i], y, 0, t.n);
+        new[i] = command(sum, t.linear[i], t.limits.lower[i], t.limits.upper[i], t.b);
     }
 }
 
@@ -48,16 +46,6 @@ fn point(new: i64, old: i64, momentum: u64, b: u32) -> i64
     let f: i64 = 1 << b;
     let beta = momentum as i64;
     integer::floor_div((f + beta) * new, b) - integer::floor_div(beta * old, b)
-}
-
-// True only where a number is as it was, and those before it were.
-fn stays(before: bool, new: i64, old: i64) -> bool
-    ensures { result ≡ true → (before ≡ true) × (new ≡ old) }
-{
-    if new != old {
-        return false;
-    }
-    before
 }
 
 // The new y in place of the old, from new commands and old ones. True only where nothing changed by that, and nothing had before; false says nothing, and costs time alone.
@@ -74,12 +62,10 @@ pub fn store_y(
     ensures { StoredY n b momentum new.now old.now y.old y.new before result }
 {
     let mut same = before;
-    let mut i = 0;
-    while i < n {
+    for i in 0..n {
         let v = point(new[i], old[i], momentum, b);
-        same = stays(same, v, y[i]);
+        same &= v == y[i];
         y[i] = v;
-        i += 1;
     }
     same
 }
@@ -90,12 +76,9 @@ pub fn store_z(n: usize, new: &[i64; 16], z: &mut [i64; 16], before: bool) -> bo
     ensures { StoredZ n new.now z.old z.new before result }
 {
     let mut same = before;
-    let mut i = 0;
-    while i < n {
-        let x = new[i];
-        same = stays(same, x, z[i]);
-        z[i] = x;
-        i += 1;
+    for i in 0..n {
+        same &= new[i] == z[i];
+        z[i] = new[i];
     }
     same
 }

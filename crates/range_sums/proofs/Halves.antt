@@ -19,7 +19,7 @@ use Rattle.array.specs.Arrays.{Filled}
 use Rattle.weight.specs.Sums.{term_at, weight_to}
 use Rattle.ranges.specs.Interval.{Interval, low, high, taken_end}
 use Rattle.ranges.proofs.Interval.{by_signs}
-use Rattle.range_sums.specs.declared.RowEnds.{RowEnds}
+use Rattle.range_sums.specs.declared.Ends.{Ends}
 use Rattle.range_sums.specs.Ends.{value_at, end_term, sum_at, width_at, Ranged, EndsSmall, RowReady, RowEndsOf}
 
 -- the sum of two rows of terms
@@ -109,7 +109,7 @@ module _ (r lows highs : List ℤ) {n : ℕ} (v : Ranged lows highs n) (s : Ends
     small = omega (arith, both_small 0 n (omega arith));
   }
 
-  module _ {x : RowEnds} (of : RowEndsOf r magnitudes sums widths n x) where
+  module _ {x : Ends ℤ} (of : RowEndsOf r magnitudes sums widths n x) where
     pub low_is : x.low ≡ low_sum 0 n
     low_is =
         of.low_half

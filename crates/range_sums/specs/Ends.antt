@@ -6,7 +6,7 @@ use Rattle.array.specs.Arrays.{WordsTo}
 use Rattle.dot.specs.Sums.{Summable}
 use Rattle.weight.specs.Sums.{weight_to, Weighable}
 use Rattle.ranges.specs.Interval.{Interval, interval, End, taken_end}
-use Rattle.range_sums.specs.declared.RowEnds.{RowEnds}
+use Rattle.range_sums.specs.declared.Ends.{Ends}
 
 -- value j, from the arrays of the lows and of the highs
 abbrev pub value_at : List ℤ → List ℤ → ℕ → Interval
@@ -41,6 +41,6 @@ pub record RowReady (r : List ℤ) (magnitudes : List ℕ) (sums : List ℤ) (wi
   pub weighable : Weighable magnitudes widths n
   pub small : nat_abs (sum_z (product_at r sums) 0 n) < 2 ^ 62
 
-pub record RowEndsOf (r : List ℤ) (magnitudes : List ℕ) (sums : List ℤ) (widths : List ℕ) (n : ℕ) (x : RowEnds) : Type 0 where
+pub record RowEndsOf (r : List ℤ) (magnitudes : List ℕ) (sums : List ℤ) (widths : List ℕ) (n : ℕ) (x : Ends ℤ) : Type 0 where
   pub low_half : x.low ≡ floor (sum_z (product_at r sums) 0 n -ℤ pos (weight_to magnitudes widths n)) 2
   pub high_half : x.high ≡ floor (sum_z (product_at r sums) 0 n +ℤ pos (weight_to magnitudes widths n)) 2

@@ -1,13 +1,10 @@
-use native.Mathlib.Omega.{arith}
-use lib.Pow.{pow_pos}
-use mathlib.Core.Path.{◌≡◌, refl}
-use mathlib.Core.Bool.{true}
-use Prim.Native.Nat.{ℕ, ◌+◌, ◌*◌, ◌^◌, ◌≤◌, ◌<◌}
+use Rattle.std.proofs.Common.{arith, refl, ℕ, ◌≡◌, ◌+◌, ◌*◌, ◌^◌, ◌<◌, ◌≤◌, get_or}
+use Rattle.std.proofs.lemmas.Bool.{and_parts, eqb-true}
 use native.Mathlib.Nat.{le_trans, mul-le-mul}
-use lib.ListN.{get_or}
+use lib.Pow.{pow_pos}
 use Rattle.integer.specs.Round.{ceil}
 use Rattle.integer.proofs.Floor.{ceil_most}
-use Rattle.array.proofs.Filling.{full, storing_none, storing_more}
+use Rattle.array.proofs.Filling.{storing_more}
 use Rattle.bounds.specs.Steps.{q_at}
 use Rattle.bounds.proofs.store.Goals.{In-loop-i, Start}
 use Rattle.bounds.proofs.store.Goals as goal
@@ -38,90 +35,16 @@ module _ (c : In-loop-i) where
   added : ceil p (2 ^ a.args.t.b) ≤ 2 ^ 53
   added = le_trans (ceil_most p (pow_pos a.args.t.b)) errors
 
-pub loop-i-init : goal.loop-i-init
-loop-i-init c =
-    let a = c.args in
-    storing_none 0 (λ k. get_or a.new.now k 0) (q_at a.t a.new.now a.e.now) a.t.n a.e.now a.q.now true c.requires.1.0.1 c.requires.1.1
-
-pub offset_bounds-new-i : goal.offset_bounds-new-i
-offset_bounds-new-i c = omega arith
-
-pub bounds-new-i : goal.bounds-new-i
-bounds-new-i c = omega arith
-
-pub offset_bounds-e-i : goal.offset_bounds-e-i
-offset_bounds-e-i c = omega arith
-
-pub bounds-e-i : goal.bounds-e-i
-bounds-e-i c = omega arith
-
-pub overflow_add-x : goal.overflow_add-x
-overflow_add-x c = omega (arith, new (goal.at.overflow_add-x c).In-loop-i, old (goal.at.overflow_add-x c).In-loop-i)
-
-pub overflow_mul-t : goal.overflow_mul-t
-overflow_mul-t c = record { fits = omega (arith, errors (goal.at.overflow_mul-t c).In-loop-i) }
-
-pub ceil_div-requires : goal.ceil_div-requires
-ceil_div-requires c = (omega (arith, errors (goal.at.ceil_div-requires c).In-loop-i), omega arith)
-
 pub overflow_add-v : goal.overflow_add-v
 overflow_add-v c = record { fits = omega (arith, new (goal.at.overflow_add-v c).In-loop-i, added (goal.at.overflow_add-v c).In-loop-i, c.ceil_div.ensures) }
 
 pub overflow_add-v-in-loop-i : goal.overflow_add-v-in-loop-i
 overflow_add-v-in-loop-i c = record { fits = omega (arith, new (goal.at.overflow_add-v-in-loop-i c).In-loop-i, added (goal.at.overflow_add-v-in-loop-i c).In-loop-i, c.ceil_div.ensures) }
 
-pub offset_bounds-e-i-in-loop-i : goal.offset_bounds-e-i-in-loop-i
-offset_bounds-e-i-in-loop-i c = omega arith
-
-pub bounds-e-i-in-loop-i : goal.bounds-e-i-in-loop-i
-bounds-e-i-in-loop-i c = omega arith
-
-pub stays-requires : goal.stays-requires
-stays-requires c = tt
-
-pub offset_bounds-q-i : goal.offset_bounds-q-i
-offset_bounds-q-i c = omega arith
-
-pub bounds-q-i : goal.bounds-q-i
-bounds-q-i c = omega arith
-
-pub stays-same-requires : goal.stays-same-requires
-stays-same-requires c = tt
-
-pub offset_bounds-e-i-in-loop-i-2 : goal.offset_bounds-e-i-in-loop-i-2
-offset_bounds-e-i-in-loop-i-2 c = omega arith
-
-pub bounds-e-i-in-loop-i-2 : goal.bounds-e-i-in-loop-i-2
-bounds-e-i-in-loop-i-2 c = omega arith
-
-pub offset_bounds-q-i-in-loop-i : goal.offset_bounds-q-i-in-loop-i
-offset_bounds-q-i-in-loop-i c = omega arith
-
-pub bounds-q-i-in-loop-i : goal.bounds-q-i-in-loop-i
-bounds-q-i-in-loop-i c = omega arith
-
-pub overflow_add-i : goal.overflow_add-i
-overflow_add-i c = omega arith
-
-pub loop-i-smaller : goal.loop-i-smaller
-loop-i-smaller c = omega arith
-
 pub loop-i-preserved : goal.loop-i-preserved
 unfolding q_at
 loop-i-preserved c =
-    let p = c in
-    let d = c in
-    let s = (a (goal.at.loop-i-preserved c).In-loop-i).args in
-    let l = d.loop-i in
-    storing_more 0 (λ k. get_or s.new.now k 0) (q_at s.t s.new.now s.e.now) _ _ (a (goal.at.loop-i-preserved c).In-loop-i).requires.0.0.few d.loop-i-test.true l.invariant refl (rw (p.ceil_div.ensures, e-old (goal.at.loop-i-preserved c).In-loop-i)) c.stays.ensures c.stays-same.ensures
-
-pub returns : goal.returns
-returns c =
-    let a = c.args in
-    let h = c.loop-i-test.false in
-    let l = c.loop-i in
-    record {
-      new_e = full 0 (λ (k : ℕ). get_or a.new.now k 0) h l.invariant.first.filling;
-      new_q = full 0 (q_at a.t a.new.now a.e.now) h l.invariant.second.filling;
-      same = l.invariant.kept;
-    }
+    storing_more 0 (λ k. get_or c.args.new.now k 0) (q_at c.args.t c.args.new.now c.args.e.now) _ _ (omega arith) c.loop-i.invariant refl (rw (c.ceil_div.ensures, e-old (goal.at.loop-i-preserved c).In-loop-i) refl)
+    (λ e. let both = and_parts _ _ e in
+    let first = and_parts _ _ both.0 in
+    (first.0, (eqb-true _ _ first.1, eqb-true _ _ both.1)))

@@ -69,9 +69,6 @@ module _ (c : After-floor_div-2) where
       let sy : nat_abs y ≤ 2 ^ 52 = rw ey (kept_size (pos (β s) *ℤ s.args.old) (b s) (right s)) in
       fit_abs (x -ℤ y) (omega (arith, abs_sub x y))
 
-pub overflow_add-f : goal.overflow_add-f
-overflow_add-f c = rw (one c, two c) (fits-gain c)
-
 pub overflow_mul-f : goal.overflow_mul-f
 overflow_mul-f c = rw (one c, two c, to_z-of_z (fits-gain c), to_z-of_z c.ranges.new) (fits-left c)
 

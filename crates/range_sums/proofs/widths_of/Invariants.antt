@@ -1,11 +1,6 @@
-use mathlib.Core.Path.{◌≡◌}
-use Prim.Native.Nat.{◌-◌}
-use Rattle.array.proofs.Filling.{Filling}
+use Rattle.array.specs.Arrays.{Filled}
 use Rattle.range_sums.specs.Ends.{width_at}
 use Rattle.range_sums.proofs.widths_of.Given as goal
 
 abbrev pub invariant-loop-j : goal.invariant-loop-j
-invariant-loop-j l = Filling 0 (λ k x. x ≡ width_at l.lows l.highs k) l.n l.j l.r
-
-abbrev pub decreases-loop-j : goal.decreases-loop-j
-decreases-loop-j l = l.n - l.j
+invariant-loop-j l = Filled 0 l.j (width_at l.lows l.highs) l.r
