@@ -1,5 +1,5 @@
 -- The way back: a word divided by 2^b is exactly that quotient, and converts to the word again under every rule. Assumes nothing.
-use Rattle.std.proofs.Common.{◌≡◌, ℕ, ◌*◌, ◌^◌, ◌<◌, ◌≤◌, Bool, true, false, T, ℤ, pos, negsuc, nat_abs, sym, refl, ap, ◌∙◌, subst, zero-le, le_trans, lt_of_lt_of_le, mul_assoc, mul_comm, mul-lt-mul_of_pos_right, mul-pos, one-mul, zero-mul, mul-one, lit<, lit≤, le→leb, lt→ltb, pow_pos, lt-ltb, le-leb}
+use Rattle.std.proofs.Common.{◌≡◌, ℕ, ◌*◌, ◌^◌, ◌<◌, ◌≤◌, Bool, true, false, T, ℤ, pos, negsuc, nat_abs, sym, refl, ap, ◌∙◌, subst, zero-le, le_trans, lt_of_lt_of_le, mul_assoc, mul_comm, mul-lt-mul_of_pos_right, mul-pos, one-mul, zero-mul, mul-one, lit<, lit≤, le→leb, lt→ltb, pow_pos, lt-ltb, le-leb, Some}
 use native.Mathlib.Nat.{eq_of_mul-eq-mul_right}
 use lib.Ieee.{Float, nan, inf, fin, binary64, up, down, round, div, of_int, in_float, fits}
 use lib.Ieee.Fits.{down_pos, round-fits}
@@ -9,8 +9,7 @@ use lib.Ieee.Scale.{round_same}
 use Rattle.integer.proofs.Laws.{abs_mul}
 use Rattle.word.specs.Format.{is_format, top, in_word}
 use Rattle.word.proofs.Format.{format, word_small}
-use Rattle.double.specs.Double.{scalable, rounded, accepted, convert, is_negative, double_value, answer, double_answer, HasQuotient, power}
-use Rattle.double.specs.declared.Converted.TheVariants.{Word}
+use Rattle.double.specs.Double.{scalable, rounded, accepted, convert, is_negative, double_value, HasQuotient, power}
 use Rattle.double.proofs.Rules.{IsRule, rule_integer}
 use Rattle.double.proofs.Signs.{abs_signed, signed_abs, signed_mul}
 use Rattle.double.proofs.Value.{quotient_of_value, of_int_value}
@@ -69,7 +68,7 @@ back_accepted : (rule : ℤ → ℕ → ℤ) (b w : ℕ) (x : Float) {z : ℤ} �
 unfolding accepted
 back_accepted rule b w x u i s r = rw (u, s, r, i)
 
-pub round_trip : (rule : ℤ → ℕ → ℤ) → IsRule rule → (b w : ℕ) (z : ℤ) → is_format b w ≡ true → in_word w z ≡ true → convert rule b w (double_value b w z) ≡ Word z
+pub round_trip : (rule : ℤ → ℕ → ℤ) → IsRule rule → (b w : ℕ) (z : ℤ) → is_format b w ≡ true → in_word w z ≡ true → convert rule b w (double_value b w z) ≡ Some z
 round_trip rule R b w z u i =
     let x = double_value b w z in
     let v = value_exact b w z u i in
@@ -77,7 +76,7 @@ round_trip rule R b w z u i =
     let r = back_rounded rule R b x z v in
     go x (back_accepted rule b w x u i (back_scalable b x z n v) r) r
   where
-    go : (x : Float) → accepted rule b w x ≡ true → rounded rule b x ≡ z → convert rule b w x ≡ Word z
+    go : (x : Float) → accepted rule b w x ≡ true → rounded rule b x ≡ z → convert rule b w x ≡ Some z
     go x a r = rw (a, r)
 
 -- ---- "plus zero" of word 0
@@ -94,13 +93,3 @@ value_zero b w u =
   where
     zero_fits : T (fits binary64 (fin false 0 (pos 0)))
     zero_fits = unfold fits in tt
-
--- ---- the three answers of the way back
-pub answer_3 : (b w : ℕ) (z : ℤ) → is_format b w ≡ false → answer 3 (fin false 0 (pos 0)) ≡ double_answer b w z
-answer_3 b w z u = rw u
-
-pub answer_5 : (b w : ℕ) (z : ℤ) → is_format b w ≡ true → in_word w z ≡ false → answer 5 (fin false 0 (pos 0)) ≡ double_answer b w z
-answer_5 b w z u i = rw (u, i)
-
-pub answer_0 : (b w : ℕ) (z : ℤ) (x : Float) → is_format b w ≡ true → in_word w z ≡ true → x ≡ round binary64 (is_negative z) (nat_abs z) (2 ^ b) → answer 0 x ≡ double_answer b w z
-answer_0 b w z x u i e = rw (u, i, e)

@@ -1,5 +1,5 @@
 -- A conversion: the machine's product rounds to what the exact product rounds to, and no value beyond ±2^32 rounds to a word. Assumes nothing.
-use Rattle.std.proofs.Common.{◌≡◌, ℕ, ◌-◌, ◌*◌, ◌^◌, ◌<◌, ◌≤◌, Bool, true, false, cond, ◌&&◌, T, ltb, ℤ, nat_abs, sym, refl, ap, ◌∙◌, le_trans, mul-le-mul_right, mul-one, arith, lit≤, pow_mono, ltb-false, ltb-true}
+use Rattle.std.proofs.Common.{◌≡◌, ℕ, ◌-◌, ◌*◌, ◌^◌, ◌<◌, ◌≤◌, Bool, true, false, cond, ◌&&◌, T, ltb, ℤ, nat_abs, sym, refl, ap, ◌∙◌, le_trans, mul-le-mul_right, mul-one, arith, lit≤, pow_mono, ltb-false, ltb-true, Some, None}
 use mathlib.Core.Bool.{false≢true}
 use borrow.Author.Tests.{lt-leb}
 use lib.Ieee.{Float, nan, inf, fin, binary64, up, down, lt, mul, fits}
@@ -7,34 +7,31 @@ use lib.Ieee.Fits.{down_pos}
 use lib.Ieee.Exact.{HasValue}
 use lib.Ieee.Scale.{finite}
 use Rattle.word.specs.Format.{is_format, top, in_word}
-use Rattle.double.specs.Double.{signed, scalable, rounded, accepted, conversion_number, convert, converted_number, round_up, round_down, accepted_limits, limits_number, convert_limits, limit_words_number, power, rounded_word}
-use Rattle.double.specs.declared.Converted.TheVariants.{Word, Refused}
-use Rattle.double.specs.declared.Limits.{Limits}
-use Rattle.double.specs.declared.LimitWords.TheVariants.{Pair, NoPair}
+use Rattle.double.specs.Double.{signed, scalable, rounded, accepted, conversion_number, convert, converted_number, power, rounded_word}
 use Rattle.double.proofs.Rules.{IsRule, rule_large}
 use Rattle.double.proofs.Signs.{abs_signed}
 use Rattle.double.proofs.Value.{two32, quotient_of_value, large_below, large_above}
 use Rattle.double.proofs.Scale.{scale_exact, scale_over}
 
 -- ---- the answer, by its test
-answer_number : (t : Bool) (z : ℤ) → converted_number (cond t (Word z) Refused) ≡ cond t 0 5
+answer_number : (t : Bool) (z : ℤ) → converted_number (cond t (Some z) None) ≡ cond t 0 5
 answer_number true z = refl
 answer_number false z = refl
 
 pub convert_number : (rule : ℤ → ℕ → ℤ) (b w : ℕ) (x : Float) → converted_number (convert rule b w x) ≡ conversion_number rule b w x
 convert_number rule b w x = answer_number (accepted rule b w x) (rounded rule b x)
 
-pub convert_word : (rule : ℤ → ℕ → ℤ) (b w : ℕ) (x : Float) {z : ℤ} → convert rule b w x ≡ Word z → (accepted rule b w x ≡ true) × (z ≡ rounded rule b x)
+pub convert_word : (rule : ℤ → ℕ → ℤ) (b w : ℕ) (x : Float) {z : ℤ} → convert rule b w x ≡ Some z → (accepted rule b w x ≡ true) × (z ≡ rounded rule b x)
 convert_word rule b w x {z} = go (accepted rule b w x)
   where
-    go : (t : Bool) → cond t (Word (rounded rule b x)) Refused ≡ Word z → (t ≡ true) × (z ≡ rounded rule b x)
+    go : (t : Bool) → cond t (Some (rounded rule b x)) None ≡ Some z → (t ≡ true) × (z ≡ rounded rule b x)
     go true e = (refl, cc)
     go false e = (cc, cc)
 
-pub convert_refused : (rule : ℤ → ℕ → ℤ) (b w : ℕ) (x : Float) → convert rule b w x ≡ Refused → accepted rule b w x ≡ false
+pub convert_refused : (rule : ℤ → ℕ → ℤ) (b w : ℕ) (x : Float) → convert rule b w x ≡ None → accepted rule b w x ≡ false
 convert_refused rule b w x = go (accepted rule b w x)
   where
-    go : (t : Bool) → cond t (Word (rounded rule b x)) Refused ≡ Refused → t ≡ false
+    go : (t : Bool) → cond t (Some (rounded rule b x)) None ≡ None → t ≡ false
     go true e = cc
     go false e = refl
 
@@ -50,21 +47,21 @@ pub overflow_outside : (rule : ℤ → ℕ → ℤ) → IsRule rule → (w : ℕ
 overflow_outside rule R w s n {d} W D h = outside rule R w (signed s n) W D (rw (abs_signed s n) (le_trans (mul-le-mul_right d (lit≤ tt)) h))
 
 module _ (rule : ℤ → ℕ → ℤ) (R : IsRule rule) (w : ℕ) (W : w ≤ 32) where
-  large_refused : (s : Bool) (m : ℕ) (e : ℤ) → 2 ^ 32 * down e ≤ m * up e → Refused ≡ rounded_word rule w (fin s m e)
+  large_refused : (s : Bool) (m : ℕ) (e : ℤ) → 2 ^ 32 * down e ≤ m * up e → None ≡ rounded_word rule w (fin s m e)
   unfolding rounded
   large_refused s m e h = rw (outside rule R w (signed s (m * up e * 1)) W (down_pos e) (rw (abs_signed s (m * up e * 1), mul-one (m * up e)) h))
 
-  pub below_refused : (y : Float) → lt (two32 true) y ≡ false → Refused ≡ rounded_word rule w y
+  pub below_refused : (y : Float) → lt (two32 true) y ≡ false → None ≡ rounded_word rule w y
   below_refused nan h = refl
   below_refused (inf s) h = refl
   below_refused (fin s m e) h = large_refused s m e (large_below s m e h)
 
-  pub above_refused : (y : Float) → lt y (two32 false) ≡ false → Refused ≡ rounded_word rule w y
+  pub above_refused : (y : Float) → lt y (two32 false) ≡ false → None ≡ rounded_word rule w y
   above_refused nan h = refl
   above_refused (inf s) h = refl
   above_refused (fin s m e) h = large_refused s m e (large_above s m e h)
 
-pub rounded_answer : (rule : ℤ → ℕ → ℤ) (w : ℕ) (y : Float) (n : ℤ) (r : Bool) → finite y ≡ true → n ≡ rounded rule 0 y → in_word w n ≡ r → cond r (Word n) Refused ≡ rounded_word rule w y
+pub rounded_answer : (rule : ℤ → ℕ → ℤ) (w : ℕ) (y : Float) (n : ℤ) (r : Bool) → finite y ≡ true → n ≡ rounded rule 0 y → in_word w n ≡ r → cond r (Some n) None ≡ rounded_word rule w y
 rounded_answer rule w y n r f e i = rw (f, sym e, i)
 
 -- ---- the machine's product against the exact one
@@ -104,31 +101,10 @@ convert_scaled rule R b w x u t =
     let k = scaled_law rule R b x t in
     rw u (go (finite (mul binary64 x (power b))) (scalable b x) (rounded rule 0 (mul binary64 x (power b))) (rounded rule b x) k.is_finite k.rounds)
   where
-    go : (f s : Bool) (y z : ℤ) → f ≡ s → (s ≡ true → y ≡ z) → cond (f && in_word w y) (Word y) Refused ≡ cond (s && in_word w z) (Word z) Refused
+    go : (f s : Bool) (y z : ℤ) → f ≡ s → (s ≡ true → y ≡ z) → cond (f && in_word w y) (Some y) None ≡ cond (s && in_word w z) (Some z) None
     go f true y z p q = rw (p, q refl)
     go f false y z p q = rw p
 
-pub convert_unformatted : (rule : ℤ → ℕ → ℤ) (b w : ℕ) (x : Float) → is_format b w ≡ false → Refused ≡ convert rule b w x
+pub convert_unformatted : (rule : ℤ → ℕ → ℤ) (b w : ℕ) (x : Float) → is_format b w ≡ false → None ≡ convert rule b w x
 unfolding accepted
 convert_unformatted rule b w x u = rw u
-
--- ---- a motor's limits, by the two answers
-module _ (b w : ℕ) (l : Limits) where
-  pub limits_pair : {low high : ℤ} → convert round_up b w l.low ≡ Word low → convert round_down b w l.high ≡ Word high → Pair low high ≡ convert_limits b w l
-  limits_pair p q =
-      let i = convert_word round_up b w l.low p in
-      let j = convert_word round_down b w l.high q in
-      rw (i.0, j.0, i.1, j.1)
-
-  pub limits_low : convert round_up b w l.low ≡ Refused → NoPair ≡ convert_limits b w l
-  limits_low p = rw (convert_refused round_up b w l.low p)
-
-  pub limits_high : {low : ℤ} → convert round_up b w l.low ≡ Word low → convert round_down b w l.high ≡ Refused → NoPair ≡ convert_limits b w l
-  limits_high p q = rw ((convert_word round_up b w l.low p).0, convert_refused round_down b w l.high q)
-
-  pub limits_number_lem : limit_words_number (convert_limits b w l) ≡ limits_number b w l
-  limits_number_lem = go (accepted_limits b w l)
-    where
-      go : (t : Bool) → limit_words_number (cond t (Pair (rounded round_up b l.low) (rounded round_down b l.high)) NoPair) ≡ cond t 0 5
-      go true = refl
-      go false = refl

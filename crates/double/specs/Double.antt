@@ -1,6 +1,6 @@
 -- Design doubles and words, as "Words and sizes" and "The design sheet" of document 01 relate them, and request 7. They compute. Assumes nothing.
 -- A finite double `fin s m e` of lib.Ieee is ±m × 2^e, and 2^e is the fraction up e / down e: so it is exactly ±(m × up e) / down e.
-use Rattle.std.specs.Prelude.{◌≡◌, ℕ, ◌*◌, ◌^◌, Bool, true, false, cond, ◌&&◌, ℤ, pos, negsuc, ◌*ℤ◌, neg_ℤ, ◌==◌, nat_lt, unsigned_abs, Float}
+use Rattle.std.specs.Prelude.{◌≡◌, ℕ, ◌*◌, ◌^◌, Bool, true, false, cond, ◌&&◌, ℤ, pos, negsuc, ◌*ℤ◌, neg_ℤ, ◌==◌, nat_lt, unsigned_abs, Float, Option, Some, None, Result, Ok, Err}
 use Rattle.std.specs.Float.{nan, inf, fin, binary64}
 use Rattle.std.specs.Float.Ieee.{up, down, round}
 use Rattle.std.specs.Float.Ieee.Nearest.{closest}
@@ -9,12 +9,9 @@ use Rattle.integer.specs.Round.{floor}
 use Rattle.word.specs.Format.{is_format, in_word}
 use Rattle.double.specs.declared.Rounding.{Rounding}
 use Rattle.double.specs.declared.Rounding.TheVariants.{Down, Up, Nearest}
-use Rattle.double.specs.declared.Converted.{Converted}
-use Rattle.double.specs.declared.Converted.TheVariants.{Word, Refused}
 use Rattle.double.specs.declared.Limits.{Limits}
-use Rattle.double.specs.declared.LimitWords.{LimitWords}
-use Rattle.double.specs.declared.LimitWords.TheVariants.{Pair, NoPair}
-use Rattle.double.specs.declared.DoubleAnswer.{DoubleAnswer}
+use Rattle.refusal.specs.declared.Refusal.{Refusal}
+use Rattle.refusal.specs.declared.Refusal.TheVariants.{Size, Word}
 
 -- ---- sign and magnitude
 
@@ -72,13 +69,13 @@ abbrev pub conversion_number : (ℤ → ℕ → ℤ) → ℕ → ℕ → Float �
 conversion_number rule b w x = cond (accepted rule b w x) 0 5
 
 -- the answer of a conversion, with the word
-abbrev pub convert : (ℤ → ℕ → ℤ) → ℕ → ℕ → Float → Converted
-convert rule b w x = cond (accepted rule b w x) (Word (rounded rule b x)) Refused
+abbrev pub convert : (ℤ → ℕ → ℤ) → ℕ → ℕ → Float → Option ℤ
+convert rule b w x = cond (accepted rule b w x) (Some (rounded rule b x)) None
 
--- document 01's number for each case of `Converted`: a word goes with 0, none with 5
-abbrev pub converted_number : Converted → ℕ
-converted_number (Word z) = 0
-converted_number Refused = 5
+-- document 01's number for each answer of a conversion: a word goes with 0, none with 5
+abbrev pub converted_number : Option ℤ → ℕ
+converted_number (Some z) = 0
+converted_number None = 5
 
 -- ---- a motor's limits
 
@@ -91,13 +88,13 @@ abbrev pub limits_number : ℕ → ℕ → Limits → ℕ
 limits_number b w l = cond (accepted_limits b w l) 0 5
 
 -- the answer of the two conversions, with the words
-abbrev pub convert_limits : ℕ → ℕ → Limits → LimitWords
-convert_limits b w l = cond (accepted_limits b w l) (Pair (rounded round_up b l.low) (rounded round_down b l.high)) NoPair
+abbrev pub convert_limits : ℕ → ℕ → Limits → Option (ℤ × ℤ)
+convert_limits b w l = cond (accepted_limits b w l) (Some (rounded round_up b l.low, rounded round_down b l.high)) None
 
--- document 01's number for each case of `LimitWords`: the low and the high word go with 0, none with 5
-abbrev pub limit_words_number : LimitWords → ℕ
-limit_words_number (Pair low high) = 0
-limit_words_number NoPair = 5
+-- document 01's number for each answer of the two conversions: the low and the high word go with 0, none with 5
+abbrev pub limit_words_number : Option (ℤ × ℤ) → ℕ
+limit_words_number (Some words) = 0
+limit_words_number None = 5
 
 -- ---- a word to a double
 
@@ -109,13 +106,14 @@ double_number b w z = cond (is_format b w) (cond (in_word w z) 0 5) 3
 abbrev pub double_value : ℕ → ℕ → ℤ → Float
 double_value b w z = cond (double_number b w z == 0) (round binary64 (is_negative z) (unsigned_abs z) (2 ^ b)) (fin false 0 (pos 0))
 
--- the answer with a number and a double
-abbrev pub answer : ℕ → Float → DoubleAnswer
-answer n x = record { number = n; value = x }
+-- the answer of "a word back to a double": the double with 0, and a refusal with 3 or 5
+abbrev pub double_answer : ℕ → ℕ → ℤ → Result Float Refusal
+double_answer b w z = cond (is_format b w) (cond (in_word w z) (Ok (double_value b w z)) (Err Word)) (Err Size)
 
--- the answer of "a word back to a double"
-abbrev pub double_answer : ℕ → ℕ → ℤ → DoubleAnswer
-double_answer b w z = answer (double_number b w z) (double_value b w z)
+-- the double that goes with an answer: "plus zero with either number" of a refusal
+abbrev pub answered_value : Result Float Refusal → Float
+answered_value (Ok x) = x
+answered_value (Err why) = fin false 0 (pos 0)
 
 -- "divided .., exact": the double is finite, and ±m × 2^e = z / d
 abbrev pub HasQuotient : Float → ℤ → ℕ → Type 0
@@ -130,5 +128,5 @@ abbrev pub power : ℕ → Float
 power b = fin false 1 (pos b)
 
 -- a double that is scaled already, rounded by a rule, as the answer of a conversion
-abbrev pub rounded_word : (ℤ → ℕ → ℤ) → ℕ → Float → Converted
-rounded_word rule w y = cond (finite y && in_word w (rounded rule 0 y)) (Word (rounded rule 0 y)) Refused
+abbrev pub rounded_word : (ℤ → ℕ → ℤ) → ℕ → Float → Option ℤ
+rounded_word rule w y = cond (finite y && in_word w (rounded rule 0 y)) (Some (rounded rule 0 y)) None

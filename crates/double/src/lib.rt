@@ -1,10 +1,13 @@
 // Design doubles to words and back.
 #![tactic(auto)]
 
-ghost use Rattle.std.specs.Prelude.{◌≡◌, ◌^◌, ◌≤◌, true, false, pos, from_bits, unsigned_abs};
+ghost use Rattle.std.specs.Prelude.{◌≡◌, ◌^◌, ◌≤◌, IfOk, true, false, pos, from_bits, unsigned_abs};
 ghost use Rattle.std.specs.Float.{binary64, fin};
 ghost use Rattle.std.specs.Float.Ieee.{mul, lt, round};
-ghost use Rattle.double.specs.Double.{power, rounded, rounded_word, round_down, round_nearest, rule_of, convert, conversion_number, converted_number, convert_limits, limits_number, limit_words_number, is_negative, answer, double_answer, HasQuotient};
+ghost use Rattle.double.specs.Double.{power, rounded, rounded_word, round_down, round_nearest, rule_of, convert, conversion_number, converted_number, convert_limits, limits_number, limit_words_number, is_negative, answered_value, double_number, double_value, double_answer, HasQuotient};
+ghost use Rattle.refusal.specs.Number.{number_of};
+
+use refusal::Refusal;
 
 // How a value between two counts is rounded.
 #[derive(Clone, Copy)]
@@ -15,32 +18,11 @@ pub enum Rounding {
     Nearest,
 }
 
-// What a conversion answers.
-#[derive(Clone, Copy)]
-pub enum Converted {
-    Word(i64),
-    Refused,
-}
-
 // A motor's limits, which travel together as doubles until both are rounded.
 #[derive(Clone, Copy)]
 pub struct Limits {
     pub low: f64,
     pub high: f64,
-}
-
-// What the conversion of a motor's limits answers: the low word and the high word.
-#[derive(Clone, Copy)]
-pub enum LimitWords {
-    Pair(i64, i64),
-    NoPair,
-}
-
-// What the way back answers: document 01's number, and the double.
-#[derive(Clone, Copy)]
-pub struct DoubleAnswer {
-    pub number: u32,
-    pub value: f64,
 }
 
 // 2^b as a double.
@@ -99,43 +81,37 @@ fn round_integer(y: f64, how: Rounding) -> i64
 }
 
 // y rounded, as a word of w bits. A NaN fails the first test; beyond ±2^32 no rounding gives a word.
-fn rounded_word(y: f64, w: u32, how: Rounding) -> Converted
+fn rounded_word(y: f64, w: u32, how: Rounding) -> Option<i64>
     requires { (1 ≤ w) × (w ≤ 32) }
     ensures { result ≡ rounded_word (rule_of how) w y }
 {
-    if y > -4294967296.0 {
-        if y < 4294967296.0 {
-            let n = round_integer(y, how);
-            if word::is_word(n, w) {
-                return Converted::Word(n);
-            }
+    if y > -4294967296.0 && y < 4294967296.0 {
+        let n = round_integer(y, how);
+        if word::is_word(n, w) {
+            return Some(n);
         }
     }
-    Converted::Refused
+    None
 }
 
 // A design double as a word of w bits with b fraction bits.
-pub fn to_word(x: f64, b: u32, w: u32, how: Rounding) -> Converted
+pub fn to_word(x: f64, b: u32, w: u32, how: Rounding) -> Option<i64>
     ensures { (result ≡ convert (rule_of how) b w x) × (converted_number result ≡ conversion_number (rule_of how) b w x) }
 {
     if word::is_format(b, w) {
         rounded_word(scaled(x, b), w, how)
     } else {
-        Converted::Refused
+        None
     }
 }
 
 // A motor's limits as words, rounded inward: the low up, the high down.
-pub fn inward(limits: Limits, b: u32, w: u32) -> LimitWords
+pub fn inward(limits: Limits, b: u32, w: u32) -> Option<(i64, i64)>
     ensures { (result ≡ convert_limits b w limits) × (limit_words_number result ≡ limits_number b w limits) }
 {
-    match to_word(limits.low, b, w, Rounding::Up) {
-        Converted::Word(low) => match to_word(limits.high, b, w, Rounding::Down) {
-            Converted::Word(high) => LimitWords::Pair(low, high),
-            Converted::Refused => LimitWords::NoPair,
-        },
-        Converted::Refused => LimitWords::NoPair,
-    }
+    let low = to_word(limits.low, b, w, Rounding::Up)?;
+    let high = to_word(limits.high, b, w, Rounding::Down)?;
+    Some((low, high))
 }
 
 // z / 2^b: each of the two is a double exactly.
@@ -146,31 +122,20 @@ fn quotient(z: i64, b: u32) -> f64
     (z as f64) / power_of_two(b)
 }
 
-// The answer of a refusal: the number, and plus zero.
-fn refusal(number: u32) -> DoubleAnswer
-    ensures { result ≡ answer number (fin false 0 (pos 0)) }
-{
-    DoubleAnswer {
-        number: number,
-        value: 0.0,
-    }
-}
-
-// The double of a word of w bits with b fraction bits, for any z.
-pub fn to_double(z: i64, b: u32, w: u32) -> DoubleAnswer
-    ensures { (result ≡ double_answer b w z) × (result.number ≡ 0 → HasQuotient result.value z (2 ^ b)) }
+// The double of a word of w bits with b fraction bits, for any z. A refusal's is plus zero, which its caller writes.
+pub fn to_double(z: i64, b: u32, w: u32) -> Result<f64, Refusal>
+    ensures answer { result ≡ double_answer b w z }
+    ensures number { number_of result ≡ double_number b w z }
+    ensures value { answered_value result ≡ double_value b w z }
+    ensures exact { IfOk result (λ x. HasQuotient x z (2 ^ b)) }
 {
     if !word::is_format(b, w) {
-        return refusal(3);
+        return Err(Refusal::Size);
     }
     if !word::is_word(z, w) {
-        return refusal(5);
+        return Err(Refusal::Word);
     }
-    let x = quotient(z, b);
-    DoubleAnswer {
-        number: 0,
-        value: x,
-    }
+    Ok(quotient(z, b))
 }
 
 // The double with this bit pattern. Every NaN pattern is the one NaN, which has no pattern of its own to keep.

@@ -1,14 +1,13 @@
 -- What a call writes: accepted words fit their four bytes, and a word's double has a pattern. Assumes nothing.
-use mathlib.Core.Path.{◌≡◌, refl, sym, ap, ◌∙◌, subst}
+use mathlib.Core.Path.{◌≡◌, refl, sym, ap, ◌∙◌}
 use mathlib.Core.Bool.{Bool, true, false, ◌&&◌, cond, not}
 use mathlib.Core.List.{List, [], ◌∷◌, ◌++◌, append-nil}
-use Prim.Native.Nat.{ℕ, ◌+◌, ◌^◌}
+use Prim.Native.Nat.{ℕ, ◌+◌}
 use native.Mathlib.Omega.{arith}
 use lib.Dec.{T, eqb}
-use lib.IntN.{ℤ, pos}
+use lib.IntN.{ℤ}
 use lib.ListN.{length, length-append}
 use lib.Ieee.{Float, nan, inf, fin, is_nan}
-use borrow.Author.Tests.{eqb-true}
 use mir.Syntax.{w32}
 use mir.Val.{SFits, of_z}
 use Rattle.integer.proofs.Machine.{sfits_abs}
@@ -19,10 +18,9 @@ use Rattle.word.specs.Format.{is_format, in_word}
 use Rattle.word.proofs.Format.{format, top_high, in_word_abs}
 use Rattle.word.proofs.Buffer.{put_put, put_whole}
 use Rattle.word.proofs.Words.{length_bytes}
-use Rattle.double.specs.Double.{accepted, accepted_limits, scalable, rounded, round_up, round_down, convert_limits, double_number, double_value, double_answer, HasQuotient}
+use Rattle.double.specs.Double.{accepted, accepted_limits, scalable, rounded, round_up, round_down, convert_limits, double_number, HasQuotient}
 use Rattle.double.specs.declared.Limits.{Limits}
-use Rattle.double.specs.declared.LimitWords.TheVariants.{Pair, NoPair}
-use Rattle.double.specs.declared.DoubleAnswer.{DoubleAnswer}
+use Rattle.std.specs.Prelude.{Option, Some, None}
 
 -- ---- an accepted word
 pub accepted_fits : (rule : ℤ → ℕ → ℤ) (b w : ℕ) (x : Float) → accepted rule b w x ≡ true → SFits w32 (rounded rule b x)
@@ -41,14 +39,15 @@ pub record Accepted (b w : ℕ) (l : Limits) (low high : ℤ) : Type 0 where
   pub high_fits : SFits w32 high
 
 module _ (b w : ℕ) (l : Limits) where
-  pub pair_accepted : {low high : ℤ} → convert_limits b w l ≡ Pair low high → Accepted b w l low high
+  pub pair_accepted : {low high : ℤ} → convert_limits b w l ≡ Some (low, high) → Accepted b w l low high
   pair_accepted {low} {high} = go (accepted_limits b w l) refl
     where
-      go : (t : Bool) → accepted_limits b w l ≡ t → cond t (Pair (rounded round_up b l.low) (rounded round_down b l.high)) NoPair ≡ Pair low high → Accepted b w l low high
+      go : (t : Bool) → accepted_limits b w l ≡ t → cond {A = Option (ℤ × ℤ)} t (Some (rounded round_up b l.low, rounded round_down b l.high)) None ≡ Some (low, high) → Accepted b w l low high
       go true q e =
           let p = both (accepted round_up b w l.low) (accepted round_down b w l.high) q in
-          let i : low ≡ rounded round_up b l.low = cc in
-          let j : high ≡ rounded round_down b l.high = cc in
+          let k : ◌≡◌ {A = ℤ × ℤ} (rounded round_up b l.low, rounded round_down b l.high) (low, high) = cc in
+          let i = sym (ap (λ (x : ℤ × ℤ). x.0) k) in
+          let j = sym (ap (λ (x : ℤ × ℤ). x.1) k) in
           record {
             both_accepted = q;
             low_is = i;
@@ -57,13 +56,6 @@ module _ (b w : ℕ) (l : Limits) where
             high_fits = rw j (accepted_fits round_down b w l.high p.1);
           }
       go false q e = let z : ◌≡◌ {A = ℕ} 0 1 = cc in absurd (let n : ⊥ = omega arith in n)
-
-  pub none_accepted : convert_limits b w l ≡ NoPair → accepted_limits b w l ≡ false
-  none_accepted = go (accepted_limits b w l)
-    where
-      go : (t : Bool) → cond t (Pair (rounded round_up b l.low) (rounded round_down b l.high)) NoPair ≡ NoPair → t ≡ false
-      go true e = cc
-      go false e = refl
 
 -- ---- one word, two words, a pattern
 pub put_one : (out : List ℕ) (z : ℤ) → length out ≡ 4 → put_at out 0 (word_bytes z) ≡ words_out (z ∷ [])
@@ -86,23 +78,13 @@ pub put_pattern_lem : (out : List ℕ) (n : ℕ) → length out ≡ 8 → put_at
 put_pattern_lem out n h = put_whole out (pattern_bytes n) (h ∙ sym (length_bytes 8 n))
 
 -- ---- the double of a word is no NaN
-quotient_no_nan : (x : Float) (z : ℤ) (d : ℕ) → HasQuotient x z d → T (not (is_nan x))
+pub quotient_no_nan : (x : Float) (z : ℤ) (d : ℕ) → HasQuotient x z d → T (not (is_nan x))
 unfolding is_nan
 quotient_no_nan nan z d q = absurd q
 quotient_no_nan (inf s) z d q = absurd q
 quotient_no_nan (fin s m e) z d q = tt
 
-pub answer_no_nan : (b w : ℕ) (z : ℤ) (r : DoubleAnswer) → r ≡ double_answer b w z → (r.number ≡ 0 → HasQuotient r.value z (2 ^ b)) → T (not (is_nan r.value))
-unfolding is_nan
-answer_no_nan b w z r e q = by (eqb (double_number b w z) 0) refl
-  where
-    by : (t : Bool) → eqb (double_number b w z) 0 ≡ t → T (not (is_nan r.value))
-    by true h = quotient_no_nan r.value z (2 ^ b) (q (ap (λ (s : DoubleAnswer). s.number) e ∙ eqb-true (double_number b w z) 0 h))
-    by false h =
-        let u : double_value b w z ≡ fin false 0 (pos 0) = rw h in
-        subst (λ (x : Float). T (not (is_nan x))) (sym (ap (λ (s : DoubleAnswer). s.value) e ∙ u)) tt
-
--- and its number is never 15
+-- the number of its answer is never 15
 pub answer_below : (b w : ℕ) (z : ℤ) → eqb (double_number b w z) 15 ≡ false
 answer_below b w z = by (is_format b w) (in_word w z)
   where

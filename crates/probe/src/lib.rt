@@ -4,18 +4,16 @@
 ghost use Rattle.std.specs.Prelude.{◌≡◌, cond, eqb, length};
 ghost use Rattle.probe.specs.Probe.{rounding_of, word_number, word_answer, limits_number, limits_answer, double_number, double_answer};
 
-use double::{Converted, LimitWords, Limits, Rounding};
+use double::{Limits, Rounding};
+use refusal::Refusal;
 
 fn rounding(how: u32) -> Rounding
     ensures { result ≡ rounding_of how }
 {
-    if how == 0 {
-        return Rounding::Down;
-    }
-    if how == 1 {
-        Rounding::Up
-    } else {
-        Rounding::Nearest
+    match how {
+        0 => Rounding::Down,
+        1 => Rounding::Up,
+        _ => Rounding::Nearest,
     }
 }
 
@@ -26,14 +24,14 @@ pub extern "C" fn probe_to_word(bits: u64, b: u32, w: u32, how: u32, out: &mut [
     ensures bytes { out.new ≡ cond (eqb result 0) (word_answer bits b how) out.old }
 {
     if out.len() != 4 {
-        return 15;
+        return Refusal::Buffer.into();
     }
     match double::to_word(double::of_pattern(bits), b, w, rounding(how)) {
-        Converted::Word(z) => {
+        Some(z) => {
             word::put_word(out, 0, z);
             0
         }
-        Converted::Refused => 5,
+        None => Refusal::Word.into(),
     }
 }
 
@@ -44,19 +42,19 @@ pub extern "C" fn probe_inward(low: u64, high: u64, b: u32, w: u32, out: &mut [u
     ensures bytes { out.new ≡ cond (eqb result 0) (limits_answer low high b) out.old }
 {
     if out.len() != 8 {
-        return 15;
+        return Refusal::Buffer.into();
     }
     let limits = Limits {
         low: double::of_pattern(low),
         high: double::of_pattern(high),
     };
     match double::inward(limits, b, w) {
-        LimitWords::Pair(low, high) => {
+        Some((low, high)) => {
             word::put_word(out, 0, low);
             word::put_word(out, 4, high);
             0
         }
-        LimitWords::NoPair => 5,
+        None => Refusal::Word.into(),
     }
 }
 
@@ -67,9 +65,16 @@ pub extern "C" fn probe_to_double(value: i64, b: u32, w: u32, out: &mut [u8]) ->
     ensures bytes { out.new ≡ cond (eqb result 15) out.old (double_answer value b w) }
 {
     if out.len() != 8 {
-        return 15;
+        return Refusal::Buffer.into();
     }
-    let a = double::to_double(value, b, w);
-    word::put_pattern(out, 0, f64::to_bits(a.value));
-    a.number
+    match double::to_double(value, b, w) {
+        Ok(x) => {
+            word::put_pattern(out, 0, f64::to_bits(x));
+            0
+        }
+        Err(why) => {
+            word::put_pattern(out, 0, f64::to_bits(0.0));
+            why.into()
+        }
+    }
 }

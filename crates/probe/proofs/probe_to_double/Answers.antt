@@ -1,43 +1,31 @@
--- `probe::probe_to_double` meets its contract. Assumes nothing.
-use mathlib.Core.Path.{◌≡◌, refl, ap, ◌∙◌}
-use Prim.Native.Nat.{◌^◌}
-use lib.Ieee.{binary64, to_bits}
-use lib.ListN.{length}
-use mir.Facts.{to_z-of_z}
-use borrow.Author.Tests.{eq-eqb, ne_eqb}
+-- Assumes nothing.
+use Rattle.std.proofs.Common.{◌≡◌, false, pos, refl, ap, ◌∙◌, to_z-of_z}
+use lib.Ieee.{Float, fin, binary64, of_bits, to_bits}
 use Rattle.word.specs.Word.{pattern_bytes}
-use Rattle.double.specs.Double.{double_answer, HasQuotient}
-use Rattle.double.specs.declared.DoubleAnswer.{DoubleAnswer}
-use Rattle.probe.proofs.Answers.{put_pattern_lem, answer_no_nan, answer_below}
-use Rattle.probe.proofs.probe_to_double.Goals.{After-to_double-a, Start}
+use Rattle.probe.proofs.Answers.{quotient_no_nan, put_pattern_lem, answer_below}
+use Rattle.probe.proofs.probe_to_double.Goals.{Start}
 use Rattle.probe.proofs.probe_to_double.Goals as goal
 
-module _ (c : After-to_double-a) where
-  abbrev start : Start
-  start = (goal.at.After-to_double-a c).Start
+-- the code's literal
+plus_zero : of_bits binary64 0 ≡ fin false 0 (pos 0)
+unfolding of_bits
+plus_zero = refl
 
-  converted : c.to_double-a.result ≡ double_answer start.args.b start.args.w start.args.value
-  converted = rw (to_z-of_z start.ranges.value) at c.to_double-a.ensures.0
+pub float_to_bits-x : goal.float_to_bits-x
+float_to_bits-x c = quotient_no_nan c.in-Ok.x _ _ c.in-Ok.ensures.exact
 
-  exact : c.to_double-a.result.number ≡ 0 → HasQuotient c.to_double-a.result.value start.args.value (2 ^ start.args.b)
-  exact = rw (to_z-of_z start.ranges.value) at c.to_double-a.ensures.1
+pub returns-in-Ok-clause-bytes : goal.returns-in-Ok-clause-bytes
+returns-in-Ok-clause-bytes c =
+    let e = rw (to_z-of_z c.ranges.value) at c.in-Ok.ensures.value in
+    c.put_pattern.ensures ∙ put_pattern_lem c.args.out.now (to_bits binary64 c.in-Ok.x) c.if-out-ne8.false ∙ ap (λ (x : Float). pattern_bytes (to_bits binary64 x)) e
 
-pub returns-then-out-ne8 : goal.returns-then-out-ne8
-returns-then-out-ne8 c = record { number = rw (ne_eqb (length c.args.out.now) 8 c.if-out-ne8.true); bytes = refl }
-
-pub float_to_bits-a : goal.float_to_bits-a
-float_to_bits-a c =
-    let d = (goal.at.float_to_bits-a c).After-to_double-a in
-    answer_no_nan c.args.b c.args.w c.args.value c.to_double-a.result (converted d) (exact d)
-
-pub returns : goal.returns
-returns c =
-    let d = (goal.at.returns c).After-to_double-a in
+pub returns-in-Err-clause-bytes : goal.returns-in-Err-clause-bytes
+returns-in-Err-clause-bytes c =
     let a = c.args in
-    let e = ap (λ (r : DoubleAnswer). r.number) (converted d) in record {
-      number = rw (eq-eqb (length a.out.now) 8 c.if-out-ne8.false) e;
-      bytes =
-          rw
-          (e, answer_below a.b a.w a.value)
-          (c.put_pattern.ensures ∙ put_pattern_lem a.out.now (to_bits binary64 c.to_double-a.result.value) c.if-out-ne8.false ∙ ap (λ (r : DoubleAnswer). pattern_bytes (to_bits binary64 r.value)) (converted d));
-    }
+    let n = rw (to_z-of_z c.ranges.value) at c.in-Err.ensures.number in
+    let e = rw (to_z-of_z c.ranges.value) at c.in-Err.ensures.value in
+    rw
+    (c.into-in-Err.ensures, n, answer_below a.b a.w a.value)
+    (c.put_pattern-in-Err.ensures
+    ∙ put_pattern_lem a.out.now (to_bits binary64 (of_bits binary64 0)) c.if-out-ne8.false
+    ∙ ap (λ (x : Float). pattern_bytes (to_bits binary64 x)) (plus_zero ∙ e))
