@@ -12,7 +12,7 @@ use Rattle.integer.proofs.Tests.{both}
 use Rattle.word.proofs.Buffer.{get_d_part, part_between, part_within}
 use Rattle.hexadecimal.specs.Hex.{hex_at, hex_digits, hexes}
 use Rattle.hexadecimal.proofs.Hex.{digits_back, frame_digits, hex_back, hexes_back, hexes_part, hexes_split, length_hex}
-use Rattle.line.specs.declared.Line.TheVariants.{Frame}
+use Rattle.std.specs.Prelude.{Ok}
 use Rattle.line.specs.Line.{is_frame, line_at}
 use Rattle.line.proofs.Laws.{a_frame, frame_end}
 
@@ -64,7 +64,7 @@ module _ (t : List ℕ) (at k r c n : ℕ) (e : take 23 (drop at t) ≡ hex_digi
       let k2 : hexes 2 t at ≡ true = hexes_back 2 k t at (rw a at kind_field) in
       rw (frame_digits t at, hexes_split 2 4 t at, hexes_split 2 2 t (at + 2), b, k2, hexes_back 2 r t (at + 2) row_field, hexes_back 2 c t (at + 4) column_field, hexes_back 16 n t (at + 6) bits_field) (eq-eqb (get_or t (at + 22) 0) 10 last_byte)
 
-  pub frame_back : k < 16 ^ 2 → r < 16 ^ 2 → c < 16 ^ 2 → n < 16 ^ 16 → line_at t at ≡ Frame k r c n
+  pub frame_back : k < 16 ^ 2 → r < 16 ^ 2 → c < 16 ^ 2 → n < 16 ^ 16 → line_at t at ≡ Ok (record { kind = k; row = r; column = c; bits = n })
   frame_back hk hr hc hn =
       let a : at + 0 ≡ at = omega arith in
       sym

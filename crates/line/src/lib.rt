@@ -1,47 +1,47 @@
 // The lines of a design sheet.
 #![tactic(auto)]
 
-ghost use Rattle.std.specs.Prelude.{◌≡◌, ◌+◌, ◌<◌, ◌^◌};
-ghost use Rattle.line.specs.Line.{line_at, line_number, number_at};
+ghost use Rattle.std.specs.Prelude.{◌≡◌, ◌+◌, ◌<◌, ◌≤◌, ◌^◌, length};
+ghost use Rattle.line.specs.Line.{is_frame, line_at, line_number, number_at};
 
-// What stands at a place of the text.
+use refusal::Refusal;
+
+// What a line of 22 digits and byte 10 says.
 #[derive(Clone, Copy)]
-pub enum Line {
-    Frame {
-        kind: usize,
-        row: usize,
-        column: usize,
-        bits: u64,
-    },
-    // Not 22 digits and byte 10.
-    Malformed,
-    // No byte is left.
-    End,
+pub struct Frame {
+    pub kind: usize,
+    pub row: usize,
+    pub column: usize,
+    pub bits: u64,
+}
+
+// Whether the 23 bytes at a place are 22 digits and byte 10.
+fn is_frame(s: &[u8], at: usize) -> bool
+    requires { at + 23 ≤ length s.now }
+    ensures { result ≡ is_frame s.now at }
+{
+    hexadecimal::are_hex(s, at, 22) && s[at + 22] == b'\n'
 }
 
 // The line at a place.
-#[tactic(auto, using(crate::proofs::Laws::no_end, crate::proofs::Laws::no_end_number))]
-pub fn line_at(s: &[u8], at: usize) -> Line
+pub fn line_at(s: &[u8], at: usize) -> Result<Frame, Refusal>
     ensures { (result ≡ line_at s.now at) × (line_number result ≡ number_at s.now at) }
 {
     if s.len() <= at {
-        return Line::End;
+        return Err(Refusal::Count);
     }
     if s.len() - at < 23 {
-        return Line::Malformed; // a cut line
+        return Err(Refusal::Malformed); // a cut line
     }
-    if !hexadecimal::are_hex(s, at, 22) {
-        return Line::Malformed;
+    if !is_frame(s, at) {
+        return Err(Refusal::Malformed);
     }
-    if s[at + 22] != 10 {
-        return Line::Malformed;
-    }
-    Line::Frame {
+    Ok(Frame {
         kind: hexadecimal::hex_at(s, at, 2) as usize,
         row: hexadecimal::hex_at(s, at + 2, 2) as usize,
         column: hexadecimal::hex_at(s, at + 4, 2) as usize,
         bits: hexadecimal::hex_at(s, at + 6, 16),
-    }
+    })
 }
 
 // A position in a sheet's text.
@@ -51,23 +51,15 @@ pub struct Reader<'a> {
     pub at: usize,
 }
 
-// A line, and the reader behind it.
-#[derive(Clone, Copy)]
-pub struct Step<'a> {
-    pub line: Line,
-    pub rest: Reader<'a>,
-}
-
-// The line that a reader stands at, and the reader behind it: a line has 23 bytes.
-pub fn next<'a>(r: Reader<'a>) -> Step<'a>
-    requires { r.at + 23 < 2 ^ 64 }
-    ensures { (result.line ≡ line_at r.entry.sheet.now r.entry.at) × (line_number result.line ≡ number_at r.entry.sheet.now r.entry.at) × (result.rest.sheet ≡ r.entry.sheet) × (result.rest.at ≡ r.entry.at + 23) }
-{
-    Step {
-        line: line_at(r.sheet, r.at),
-        rest: Reader {
-            sheet: r.sheet,
-            at: r.at + 23,
-        },
+impl<'a> Reader<'a> {
+    // The line that it stands at. Then it stands behind it: a line has 23 bytes.
+    pub fn next_line(&mut self) -> Result<Frame, Refusal>
+        requires { self.old.at + 23 < 2 ^ 64 }
+        ensures line { (result ≡ line_at self.old.sheet.now self.old.at) × (line_number result ≡ number_at self.old.sheet.now self.old.at) }
+        ensures behind { (self.new.sheet ≡ self.old.sheet) × (self.new.at ≡ self.old.at + 23) }
+    {
+        let line = line_at(self.sheet, self.at);
+        self.at += 23;
+        line
     }
 }
