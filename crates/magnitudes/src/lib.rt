@@ -9,7 +9,7 @@ ghost use Rattle.gradient.specs.Bounds.{magnitude, width, range_p, range_y};
 ghost use Rattle.image.specs.Sizes.{Whole, command_count};
 ghost use Rattle.image.specs.Layout.{command_at, problem_at, momentum_at};
 
-use image::Sizes;
+use image::Image;
 
 // The magnitude of a word.
 pub fn size(x: i64) -> u64
@@ -20,58 +20,57 @@ pub fn size(x: i64) -> u64
 }
 
 // The magnitude of β's word.
-pub fn momentum_size(image: &[u8], z: Sizes) -> u64
-    requires { Whole z image.now }
-    ensures { (result ≡ nat_abs (momentum_at z image.now)) × (result ≤ 2 ^ 31) }
+pub fn momentum_size(image: &Image) -> u64
+    ensures { (result ≡ nat_abs (momentum_at image.now.sizes image.now.bytes.now)) × (result ≤ 2 ^ 31) }
 {
-    image::momentum_at(image, z).unsigned_abs()
+    image.momentum().unsigned_abs()
 }
 
 // zb of command k: the larger magnitude of its limits.
 #[tactic(auto, unfolding(gradient::specs::Bounds::magnitude, image::specs::Layout::command_at))]
-fn largest_limit(image: &[u8], z: Sizes, k: usize) -> u64
-    requires { Whole z image.now × (k < command_count z) }
-    ensures { (result ≡ magnitude (command_at z image.now k)) × (result ≤ 2 ^ 31) }
+fn largest_limit(image: &Image, k: usize) -> u64
+    requires { k < command_count image.now.sizes }
+    ensures { (result ≡ magnitude (command_at image.now.sizes image.now.bytes.now k)) × (result ≤ 2 ^ 31) }
 {
-    let low = image::lower_at(image, z, k).unsigned_abs();
-    let high = image::upper_at(image, z, k).unsigned_abs();
+    let low = image.lower_at(k).unsigned_abs();
+    let high = image.upper_at(k).unsigned_abs();
     low.max(high)
 }
 
 // w of command k: its high less its low.
 #[tactic(auto, using(crate::proofs::Bounds::width_most), unfolding(gradient::specs::Bounds::width, image::specs::Layout::command_at))]
-pub fn limit_width(image: &[u8], z: Sizes, k: usize) -> u64
-    requires { Whole z image.now × (k < command_count z) }
-    ensures { (result ≡ width (command_at z image.now k)) × (result < 2 ^ 32) }
+pub fn limit_width(image: &Image, k: usize) -> u64
+    requires { k < command_count image.now.sizes }
+    ensures { (result ≡ width (command_at image.now.sizes image.now.bytes.now k)) × (result < 2 ^ 32) }
 {
-    image::upper_at(image, z, k).abs_diff(image::lower_at(image, z, k))
+    image.upper_at(k).abs_diff(image.lower_at(k))
 }
 
 // zb + β × x / 2^b of command k: P with zb as x, Y with w.
 
-fn range_bound(image: &[u8], z: Sizes, k: usize, x: u64) -> u64
-    requires { Whole z image.now × (k < command_count z) × (x < 2 ^ 32) }
-    ensures { result ≡ magnitude (command_at z image.now k) + ceil (nat_abs (momentum_at z image.now) * x) (2 ^ z.b) }
+fn range_bound(image: &Image, k: usize, x: u64) -> u64
+    requires { (k < command_count image.now.sizes) × (x < 2 ^ 32) }
+    ensures { result ≡ magnitude (command_at image.now.sizes image.now.bytes.now k) + ceil (nat_abs (momentum_at image.now.sizes image.now.bytes.now) * x) (2 ^ image.now.sizes.b) }
 {
-    let m = momentum_size(image, z);
-    let l = largest_limit(image, z, k);
-    l + integer::ceil_div(m * x, z.b)
+    let m = momentum_size(image);
+    let l = largest_limit(image, k);
+    l + integer::ceil_div(m * x, image.sizes.b)
 }
 
 // P of command k.
 #[tactic(auto, unfolding(gradient::specs::Problem::F, gradient::specs::Bounds::range_p, image::specs::Layout::problem_at))]
-pub fn range_p(image: &[u8], z: Sizes, k: usize) -> u64
-    requires { Whole z image.now × (k < command_count z) }
-    ensures { result ≡ range_p (problem_at z image.now) (command_at z image.now k) }
+pub fn range_p(image: &Image, k: usize) -> u64
+    requires { k < command_count image.now.sizes }
+    ensures { result ≡ range_p (problem_at image.now.sizes image.now.bytes.now) (command_at image.now.sizes image.now.bytes.now k) }
 {
-    range_bound(image, z, k, largest_limit(image, z, k))
+    range_bound(image, k, largest_limit(image, k))
 }
 
 // Y of command k.
 #[tactic(auto, unfolding(gradient::specs::Problem::F, gradient::specs::Bounds::range_y, image::specs::Layout::problem_at))]
-pub fn range_y(image: &[u8], z: Sizes, k: usize) -> u64
-    requires { Whole z image.now × (k < command_count z) }
-    ensures { result ≡ range_y (problem_at z image.now) (command_at z image.now k) }
+pub fn range_y(image: &Image, k: usize) -> u64
+    requires { k < command_count image.now.sizes }
+    ensures { result ≡ range_y (problem_at image.now.sizes image.now.bytes.now) (command_at image.now.sizes image.now.bytes.now k) }
 {
-    range_bound(image, z, k, limit_width(image, z, k))
+    range_bound(image, k, limit_width(image, k))
 }
