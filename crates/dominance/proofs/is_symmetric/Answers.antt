@@ -1,7 +1,6 @@
-use Rattle.std.proofs.Common.{rules, ◌≡◌, ◌<◌, ◌^◌, ◌∙◌, ap, ℕ, ℤ, of_z, w64, Bool, eqb}
+use Rattle.std.proofs.Common.{rules, ◌≡◌, ◌<◌, ◌^◌, ◌∙◌, ℤ, of_z, w64, Bool, eqb}
 use lib.Signed.{mag}
 use borrow.Author.Tests.{tests}
-use Rattle.gradient.specs.Index.{all_to}
 use Rattle.gradient.proofs.Chain.{all_of_range}
 use Rattle.image.specs.Layout.{cost_at}
 use Rattle.interface.specs.Tables.{eq_z, symmetry_test}
@@ -18,6 +17,4 @@ pub returns : goal.returns
 unfolding symmetry_test
 returns c =
     let a = c.args in
-    let pair = λ (j : ℕ). eq_z (cost_at a.z a.image.now a.i j) (cost_at a.z a.image.now j a.i) in
-    all_of_range pair c.all.ensures.ran (λ j t f k. let kept = k.met.1 in ((λ i. (kept.0 i, kept.1 i, kept.2 i)), search (equal, k.met.0)))
-    ∙ ap (all_to pair) c.command_count.ensures
+    all_of_range (λ j. eq_z (cost_at a.z a.image.now a.i j) (cost_at a.z a.image.now j a.i)) c.command_count.ensures c.all.ensures.ran (λ j t f k. (search rules, search (equal, k.met.0)))
