@@ -7,7 +7,7 @@ ghost use Rattle.image.specs.Sizes.{Whole, command_count};
 ghost use Rattle.image.specs.Layout.{cost_at};
 ghost use Rattle.interface.specs.Tables.{margin_at, total_at, symmetry_test};
 
-use image::Sizes;
+use image::Image;
 
 // The margin and the total of a row.
 #[derive(Clone, Copy)]
@@ -25,12 +25,11 @@ pub fn power(b: u32) -> i64
 }
 
 // Entry j of row i of H.
-pub fn cost_at(image: &[u8], z: Sizes, i: usize, j: usize) -> i64
-    requires { Whole z image.now × ((i < command_count z) × (j < command_count z)) }
-    ensures { (result ≡ cost_at z image.now i j) × (nat_abs result ≤ 2 ^ 31) }
+pub fn cost_at(image: &Image, i: usize, j: usize) -> i64
+    requires { (i < command_count image.now.sizes) × (j < command_count image.now.sizes) }
+    ensures { (result ≡ cost_at image.now.sizes image.now.bytes.now i j) × (nat_abs result ≤ 2 ^ 31) }
 {
-    let at = z.cost_offset(i);
-    word::word_at(&image[at..], 4 * j)
+    word::word_at(image.cost_row(i), 4 * j)
 }
 
 // The sum of the magnitudes of n entries but entry i, as check 9 takes it of a row of H and check 21 of a row of a remainder.
@@ -51,14 +50,17 @@ pub fn others<F: Fn(usize) -> i64>(i: usize, n: usize, entry: F) -> u64
 }
 
 // The ends of row i's Gershgorin disc: its diagonal less the others, and plus them.
-pub fn disc_of(image: &[u8], z: Sizes, i: usize) -> Disc
-    requires { Whole z image.now × (i < command_count z) }
-    ensures { (result.margin ≡ margin_at z image.now i) × (result.total ≡ total_at z image.now i) }
+pub fn disc_of(image: &Image, i: usize) -> Disc
+    requires { i < command_count image.now.sizes }
+    ensures { (result.margin ≡ margin_at image.now.sizes image.now.bytes.now i) × (result.total ≡ total_at image.now.sizes image.now.bytes.now i) }
 {
-    let at = z.cost_offset(i);
-    let row = &image[at..];
+    let row = image.cost_row(i);
     let diagonal = word::word_at(row, 4 * i);
-    let radius = others(i, z.command_count(), |j| word::word_at(row, 4 * j)) as i64;
+    let radius = others(
+        i,
+        image.sizes.command_count(),
+        |j| word::word_at(row, 4 * j),
+    ) as i64;
     Disc {
         margin: diagonal - radius,
         total: diagonal + radius,
@@ -66,9 +68,9 @@ pub fn disc_of(image: &[u8], z: Sizes, i: usize) -> Disc
 }
 
 // Whether row i of H is its column i.
-pub fn is_symmetric(image: &[u8], z: Sizes, i: usize) -> bool
-    requires { Whole z image.now × (i < command_count z) }
-    ensures { result ≡ symmetry_test z image.now i }
+pub fn is_symmetric(image: &Image, i: usize) -> bool
+    requires { i < command_count image.now.sizes }
+    ensures { result ≡ symmetry_test image.now.sizes image.now.bytes.now i }
 {
-    (0..z.command_count()).all(|j| cost_at(image, z, i, j) == cost_at(image, z, j, i))
+    (0..image.sizes.command_count()).all(|j| cost_at(image, i, j) == cost_at(image, j, i))
 }

@@ -6,7 +6,7 @@ ghost use Rattle.image.specs.Sizes.{Whole};
 ghost use Rattle.interface.specs.Tables.{least_margin, largest_total, momentum_range, momentum_ratio};
 ghost use Rattle.momentum.specs.Ready.{MomentumReady};
 
-use image::Sizes;
+use image::Image;
 
 // The least margin and the largest total of the rows.
 #[derive(Clone, Copy)]
@@ -16,15 +16,14 @@ pub struct Extremes {
 }
 
 // The first row, and then each row after it.
-pub fn extremes_of(image: &[u8], z: Sizes) -> Extremes
-    requires { Whole z image.now }
-    ensures { (result.margin ≡ least_margin z image.now) × (result.total ≡ largest_total z image.now) }
+pub fn extremes_of(image: &Image) -> Extremes
+    ensures { (result.margin ≡ least_margin image.now.sizes image.now.bytes.now) × (result.total ≡ largest_total image.now.sizes image.now.bytes.now) }
 {
-    let first = dominance::disc_of(image, z, 0);
+    let first = dominance::disc_of(image, 0);
     let mut margin = first.margin;
     let mut total = first.total;
-    for i in 1..z.command_count() {
-        let row = dominance::disc_of(image, z, i);
+    for i in 1..image.sizes.command_count() {
+        let row = dominance::disc_of(image, i);
         margin = margin.min(row.margin);
         total = total.max(row.total);
     }
@@ -40,20 +39,19 @@ fn squared(a: i64, c: i64) -> i64
 }
 
 // Whether β is from 0 to 2^b − 1.
-pub fn is_momentum(image: &[u8], z: Sizes) -> bool
-    requires { Whole z image.now }
-    ensures { result ≡ momentum_range z image.now }
+pub fn is_momentum(image: &Image) -> bool
+    ensures { result ≡ momentum_range image.now.sizes image.now.bytes.now }
 {
-    let m = image::momentum_at(image, z);
-    0 <= m && m < dominance::power(z.b)
+    let m = image.momentum();
+    0 <= m && m < dominance::power(image.sizes.b)
 }
 
 // The ratio of 11 by the extremes x. Its products fit 64 bits because β is in its range and 9 and 10 have passed: margins and totals are then from 1 to 2^b.
-pub fn momentum_passes(image: &[u8], z: Sizes, x: Extremes) -> bool
-    requires { MomentumReady z image.now x }
-    ensures { result ≡ momentum_ratio z image.now }
+pub fn momentum_passes(image: &Image, x: Extremes) -> bool
+    requires { MomentumReady image.now.sizes image.now.bytes.now x }
+    ensures { result ≡ momentum_ratio image.now.sizes image.now.bytes.now }
 {
-    let f = dominance::power(z.b);
-    let m = image::momentum_at(image, z);
+    let f = dominance::power(image.sizes.b);
+    let m = image.momentum();
     squared(f - m, x.total) <= squared(f + m, x.margin)
 }

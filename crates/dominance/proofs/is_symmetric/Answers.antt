@@ -17,4 +17,4 @@ pub returns : goal.returns
 unfolding symmetry_test
 returns c =
     let a = c.args in
-    all_of_range (λ j. eq_z (cost_at a.z a.image.now a.i j) (cost_at a.z a.image.now j a.i)) c.command_count.ensures c.all.ensures.ran (λ j t f k. (search rules, search (equal, k.met.0)))
+    all_of_range (λ j. eq_z (cost_at a.image.now.sizes a.image.now.bytes.now a.i j) (cost_at a.image.now.sizes a.image.now.bytes.now j a.i)) c.command_count.ensures c.all.ensures.ran (λ j t f k. (search rules, search (equal, k.met.0)))

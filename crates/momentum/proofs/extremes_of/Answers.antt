@@ -12,5 +12,5 @@ unfolding least_margin largest_total
 returns c =
     let a = c.args in
     let l = c.loop-i in
-    let e : l.i - 1 ≡ command_count a.z - 1 = omega (arith, c.command_count-i-end.ensures) in
-    (l.invariant.0 ∙ ap (least_to (margin_at a.z a.image.now)) e, l.invariant.1 ∙ ap (largest_to (total_at a.z a.image.now)) e)
+    let e : l.i - 1 ≡ command_count a.image.now.sizes - 1 = omega (arith, c.command_count-i-end.ensures) in
+    (l.invariant.0 ∙ ap (least_to (margin_at a.image.now.sizes a.image.now.bytes.now)) e, l.invariant.1 ∙ ap (largest_to (total_at a.image.now.sizes a.image.now.bytes.now)) e)

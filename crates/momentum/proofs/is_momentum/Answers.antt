@@ -6,8 +6,8 @@ use Rattle.momentum.proofs.is_momentum.Goals as goal
 
 pub returns-then-m-ge0 : goal.returns-then-m-ge0
 unfolding momentum_range
-returns-then-m-ge0 c = grind (arith, ints, c.momentum_at-m.ensures, c.power.ensures, pow_pos)
+returns-then-m-ge0 c = grind (arith, ints, c.momentum-m.ensures, c.power.ensures, pow_pos)
 
 pub returns-else-m-ge0 : goal.returns-else-m-ge0
 unfolding momentum_range
-returns-else-m-ge0 c = grind (arith, ints, c.momentum_at-m.ensures)
+returns-else-m-ge0 c = grind (arith, ints, c.momentum-m.ensures)
