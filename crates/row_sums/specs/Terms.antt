@@ -1,34 +1,28 @@
--- One loop goes through the terms of a row for A and for B of check 12: which term is a parameter, and this page says what each stands for.
--- Assumes nothing.
-use Rattle.std.specs.Prelude.{ℕ, ◌+◌, ◌*◌, ◌^◌, ◌<◌, ◌≤◌, ◌≡◌, true, List, ℤ, nat_abs}
+-- The terms of A and B of check 12, and what a sum of terms asks of the closure that gives them. Assumes nothing.
+use Rattle.std.specs.Prelude.{ℕ, ◌*◌, ◌^◌, ◌<◌, ◌≤◌, ◌≡◌, true, List, nat_abs}
 use Rattle.array.specs.Arrays.{Filled}
 use Rattle.gradient.specs.Bounds.{range_y}
 use Rattle.gradient.specs.Index.{all_to}
 use Rattle.image.specs.declared.Sizes.{Sizes}
-use Rattle.image.specs.Sizes.{Whole, command_count, input_count}
-use Rattle.image.specs.Layout.{cost_row, gain_row, gain_at, limit_at, entry_at, command_at, problem_at}
+use Rattle.image.specs.declared.Input.{Input}
+use Rattle.image.specs.Sizes.{Whole, command_count}
+use Rattle.image.specs.Layout.{gain_at, limit_at, entry_at, command_at, problem_at}
 use Rattle.interface.specs.Tables.{range_test}
-use Rattle.row_sums.specs.declared.Term.{Term}
-use Rattle.row_sums.specs.declared.Term.TheVariants.{Range, GainRange}
 
--- term j of row i: "|M| × Y", "|Φ| × state limit" or the target's
-unfoldable pub term_at : Term → Sizes → List ℕ → ℕ → ℕ → ℕ
-term_at Range z s i j = nat_abs (entry_at z s i j) * range_y (problem_at z s) (command_at z s j)
-term_at (GainRange v) z s i j = nat_abs (gain_at v z s i j) * nat_abs (limit_at v z s j)
+-- term j of row i: of A "|M| × Y", of B "|Φ| × state limit" or the target's
+unfoldable pub range_term : Sizes → List ℕ → ℕ → ℕ → ℕ
+range_term z s i j = nat_abs (entry_at z s i j) * range_y (problem_at z s) (command_at z s j)
 
--- the row of the image that the terms are of, and how many they are
-unfoldable pub term_row : Term → Sizes → List ℕ → ℕ → List ℕ
-term_row Range z s i = cost_row z s i
-term_row (GainRange v) z s i = gain_row v z s i
+unfoldable pub gain_term : Input → Sizes → List ℕ → ℕ → ℕ → ℕ
+gain_term v z s i j = nat_abs (gain_at v z s i j) * nat_abs (limit_at v z s j)
 
-unfoldable pub term_count : Term → Sizes → ℕ
-term_count Range z = command_count z
-term_count (GainRange v) z = input_count v z
+-- each call below n gives a term that leaves room in 64 bits for a capped sum
+abbrev pub GivesSmall : (ℕ → ℕ → Type 0) → ℕ → Type 0
+GivesSmall post n = (k x : ℕ) → k < n → post k x → x ≤ 2 ^ 63
 
--- an entry of M or of the gains times a bound in the word: the product fits 64 bits
-pub record Scalable (a : ℤ) (x : ℕ) : Type 0 where
-  pub factor : nat_abs a ≤ 2 ^ 31 + 2 ^ 20
-  pub most : x ≤ 2 ^ 31
+-- each call below n gives the term of its index
+abbrev pub Gives : (ℕ → ℕ → Type 0) → ℕ → (ℕ → ℕ) → Type 0
+Gives post n term = (k x : ℕ) → k < n → post k x → x ≡ term k
 
 -- every P and every Y is in the word
 abbrev pub RangesPass : Sizes → List ℕ → Type 0
@@ -43,8 +37,3 @@ pub record RangesReady (z : Sizes) (s y : List ℕ) : Type 0 where
   pub whole : Whole z s
   pub passed : RangesPass z s
   pub ranges : RangesY z s y
-
-pub record TermsReady (t : Term) (z : Sizes) (s row y : List ℕ) (i : ℕ) : Type 0 where
-  pub ready : RangesReady z s y
-  pub index : i < command_count z
-  pub part : row ≡ term_row t z s i

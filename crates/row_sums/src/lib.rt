@@ -1,76 +1,60 @@
 // The sums of a row: those of A and B of 12 before they are divided.
 #![tactic(auto)]
 
-ghost use Rattle.std.specs.Prelude.{◌≡◌, ◌+◌, ◌*◌, ◌^◌, ◌≤◌, ◌<◌, min, nat_abs};
+ghost use Rattle.std.specs.Prelude.{◌≡◌, ◌+◌, ◌*◌, ◌^◌, ◌≤◌, ◌<◌, ℕ, min, nat_abs};
 ghost use Rattle.gradient.specs.Index.{sum_n};
-ghost use Rattle.image.specs.Sizes.{Whole};
-ghost use Rattle.row_sums.specs.Terms.{term_at, term_count, Scalable, RangesY, TermsReady};
+ghost use Rattle.image.specs.Sizes.{Whole, command_count, input_count};
+ghost use Rattle.row_sums.specs.Terms.{range_term, gain_term, Gives, GivesSmall, RangesReady, RangesY};
 
 use image::{Input, Sizes};
-
-// A term of a row's sum: of A, and of B for the state and for the target.
-#[derive(Clone, Copy)]
-pub enum Term {
-    Range,
-    GainRange(Input),
-}
-
-// |a| × x.
-fn scaled(a: i64, x: u64) -> u64
-    requires { Scalable a x }
-    ensures { (result ≡ nat_abs a * x) × (result ≤ 2 ^ 62 + 2 ^ 51) }
-{
-    integer::magnitude(a) * x
-}
 
 // Y of every command.
 pub fn ranges_y(image: &[u8], z: Sizes) -> [u64; 16]
     requires { Whole z image.now }
     ensures { RangesY z image.now result }
 {
-    let n = z.nu * z.steps;
-    let mut y = array::blank_errors();
-    let mut k = 0;
-    while k < n {
+    let mut y = [0; 16];
+    for k in 0..z.command_count() {
         y[k] = magnitudes::range_y(image, z, k);
-        k += 1;
     }
     y
 }
 
-// Term j of row i, with every Y in y.
-fn term_at(image: &[u8], row: &[u8], y: &[u64; 16], z: Sizes, t: Term, i: usize, j: usize) -> u64
-    requires { TermsReady t z image.now row.now y.now i × (j < term_count t z) }
-    ensures { (result ≡ term_at t z image.now i j) × (result ≤ 2 ^ 62 + 2 ^ 51) }
-{
-    match t {
-        Term::Range => scaled(image::entry(row, z.b, i, j), y[j]),
-        Term::GainRange(v) => {
-            let limit = magnitudes::size(image::limit_at(image, z, v, j));
-            scaled(word::word_at(row, 4 * j), limit)
-        }
-    }
-}
-
-// The sum of the terms of row i, capped: with 16 terms it may pass 64 bits.
-pub fn sum_terms(
-    image: &[u8],
-    row: &[u8],
-    y: &[u64; 16],
-    z: Sizes,
-    t: Term,
-    i: usize,
-    count: usize,
-    cap: u64,
-) -> u64
-    requires { (TermsReady t z image.now row.now y.now i × (count ≡ term_count t z)) × (cap ≤ 2 ^ 52) }
-    ensures { result ≡ min (sum_n (term_at t z image.now i) count) cap }
+// The sum of count terms, capped: of 16 terms it may pass 64 bits.
+fn sum_terms<F: Fn(usize) -> u64>(count: usize, cap: u64, term: F) -> u64
+    requires callable { (k : ℕ) → k < count → F.pre term k }
+    requires small { GivesSmall (F.post term) count }
+    requires capped { cap ≤ 2 ^ 52 }
+    ensures { (f : ℕ → ℕ) → Gives (F.post term) count f → result ≡ min (sum_n f count) cap }
 {
     let mut s: u64 = 0;
-    let mut j = 0;
-    while j < count {
-        s = integer::smaller(s + term_at(image, row, y, z, t, i, j), cap);
-        j += 1;
+    for j in 0..count {
+        s = (s + term(j)).min(cap);
     }
     s
+}
+
+// The sum of A of row i, capped, with every Y in y.
+#[tactic(auto, using(crate::proofs::Rows::held_most, crate::proofs::Rows::product_most))]
+pub fn range_sum(image: &[u8], y: &[u64; 16], z: Sizes, i: usize, cap: u64) -> u64
+    requires { (RangesReady z image.now y.now × (i < command_count z)) × (cap ≤ 2 ^ 52) }
+    ensures { result ≡ min (sum_n (range_term z image.now i) (command_count z)) cap }
+{
+    let row = &image[z.cost_offset(i)..];
+    sum_terms(
+        z.command_count(),
+        cap,
+        |j| image::entry(row, z.b, i, j).unsigned_abs() * y[j],
+    )
+}
+
+// What an input adds to the sum of B of row i, capped.
+pub fn gain_sum(image: &[u8], z: Sizes, v: Input, i: usize, cap: u64) -> u64
+    requires { (Whole z image.now × (i < command_count z)) × (cap ≤ 2 ^ 52) }
+    ensures { result ≡ min (sum_n (gain_term v z image.now i) (input_count v z)) cap }
+{
+    let row = &image[z.gain_offset(v, i)..];
+    sum_terms(z.input_count(v), cap, |j| {
+        word::word_at(row, 4 * j).unsigned_abs() * image::limit_at(image, z, v, j).unsigned_abs()
+    })
 }
