@@ -9,22 +9,13 @@ ghost use Rattle.row_sums.specs.Terms.{RangesReady};
 
 use image::{Input, Sizes};
 
-// The largest word.
-#[tactic(auto, using(word::proofs::Format::top_high))]
-fn top_word(z: Sizes) -> u64
-    requires { Sound z }
-    ensures { (result ≡ top z.w) × (result < 2 ^ 31) }
-{
-    word::top_of(z.w).unsigned_abs()
-}
-
 // Whether P and Y of command i are in the word.
 #[tactic(auto, unfolding(interface::specs::Tables::range_test))]
 pub fn range_passes(image: &[u8], z: Sizes, i: usize) -> bool
     requires { Whole z image.now × (i < command_count z) }
     ensures { result ≡ range_test z image.now i }
 {
-    let most = top_word(z);
+    let most = word::top_of(z.w);
     magnitudes::range_p(image, z, i) <= most && magnitudes::range_y(image, z, i) <= most
 }
 
@@ -35,7 +26,7 @@ fn sum_cap(z: Sizes) -> u64
     ensures { (result ≡ 2 ^ z.b * top z.w + 1) × (result ≤ 2 ^ 52) }
 {
     let f: u64 = 1 << z.b;
-    f * top_word(z) + 1
+    f * word::top_of(z.w) + 1
 }
 
 // Whether A + B of row i is in the word, with every Y in y. A is summed only once every Y is in the word, so that its products fit 64 bits.
@@ -48,5 +39,5 @@ pub fn row_passes(image: &[u8], y: &[u64; 16], z: Sizes, i: usize) -> bool
     let state = row_sums::gain_sum(image, z, Input::State, i, cap);
     let target = row_sums::gain_sum(image, z, Input::Target, i, cap);
     let b = (state + target).min(cap);
-    integer::ceil_div(a, z.b) + integer::ceil_div(b, z.b) <= top_word(z)
+    integer::ceil_div(a, z.b) + integer::ceil_div(b, z.b) <= word::top_of(z.w)
 }

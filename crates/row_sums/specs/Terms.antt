@@ -1,5 +1,5 @@
 -- The terms of A and B of check 12, and what a sum of terms asks of the closure that gives them. Assumes nothing.
-use Rattle.std.specs.Prelude.{ℕ, ◌*◌, ◌^◌, ◌<◌, ◌≤◌, ◌≡◌, true, List, nat_abs}
+use Rattle.std.specs.Prelude.{ℕ, ◌*◌, ◌<◌, ◌≡◌, true, List, nat_abs}
 use Rattle.array.specs.Arrays.{Filled}
 use Rattle.gradient.specs.Bounds.{range_y}
 use Rattle.gradient.specs.Index.{all_to}
@@ -16,13 +16,9 @@ range_term z s i j = nat_abs (entry_at z s i j) * range_y (problem_at z s) (comm
 unfoldable pub gain_term : Input → Sizes → List ℕ → ℕ → ℕ → ℕ
 gain_term v z s i j = nat_abs (gain_at v z s i j) * nat_abs (limit_at v z s j)
 
--- each call below n gives a term that leaves room in 64 bits for a capped sum
-abbrev pub GivesSmall : (ℕ → ℕ → Type 0) → ℕ → Type 0
-GivesSmall post n = (k x : ℕ) → k < n → post k x → x ≤ 2 ^ 63
-
--- each call below n gives the term of its index
-abbrev pub Gives : (ℕ → ℕ → Type 0) → ℕ → (ℕ → ℕ) → Type 0
-Gives post n term = (k x : ℕ) → k < n → post k x → x ≡ term k
+-- what a call answers of each of n places is the term there
+abbrev pub Answers : (ℕ → ℕ → Type 0) → (ℕ → ℕ) → ℕ → Type 0
+Answers post terms n = (j x : ℕ) → j < n → post j x → x ≡ terms j
 
 -- every P and every Y is in the word
 abbrev pub RangesPass : Sizes → List ℕ → Type 0

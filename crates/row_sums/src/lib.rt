@@ -4,7 +4,7 @@
 ghost use Rattle.std.specs.Prelude.{◌≡◌, ◌+◌, ◌*◌, ◌^◌, ◌≤◌, ◌<◌, ℕ, min, nat_abs};
 ghost use Rattle.gradient.specs.Index.{sum_n};
 ghost use Rattle.image.specs.Sizes.{Whole, command_count, input_count};
-ghost use Rattle.row_sums.specs.Terms.{range_term, gain_term, Gives, GivesSmall, RangesReady, RangesY};
+ghost use Rattle.row_sums.specs.Terms.{range_term, gain_term, Answers, RangesReady, RangesY};
 
 use image::{Input, Sizes};
 
@@ -22,10 +22,10 @@ pub fn ranges_y(image: &[u8], z: Sizes) -> [u64; 16]
 
 // The sum of count terms, capped: of 16 terms it may pass 64 bits.
 fn sum_terms<F: Fn(usize) -> u64>(count: usize, cap: u64, term: F) -> u64
-    requires callable { (k : ℕ) → k < count → F.pre term k }
-    requires small { GivesSmall (F.post term) count }
+    requires callable { (j : ℕ) → j < count → F.pre term j }
+    requires small { (j x : ℕ) → j < count → F.post term j x → x ≤ 2 ^ 63 }
     requires capped { cap ≤ 2 ^ 52 }
-    ensures { (f : ℕ → ℕ) → Gives (F.post term) count f → result ≡ min (sum_n f count) cap }
+    ensures { (terms : ℕ → ℕ) → Answers (F.post term) terms count → result ≡ min (sum_n terms count) cap }
 {
     let mut s: u64 = 0;
     for j in 0..count {
