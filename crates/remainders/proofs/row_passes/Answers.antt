@@ -1,28 +1,20 @@
-use native.Mathlib.Omega.{arith}
-use mathlib.Core.Path.{◌≡◌, ◌∙◌}
-use lib.IntN.{pos}
-use mir.Syntax.{w64}
-use mir.Val.{to_z}
-use mir.Facts.{to_z_pos}
+use Rattle.std.proofs.Common.{rules, arith, ◌≡◌, ap, ◌∙◌, pos, to_z, w64}
+use Rattle.std.proofs.lemmas.Int.{ints}
 use Rattle.integer.proofs.Machine.{back}
+use Rattle.dominance.specs.Others.{others_in}
+use Rattle.factors.specs.Form.{others}
 use Rattle.image.specs.Sizes.{command_count}
 use Rattle.lent.specs.Lent.{remainder_at}
 use Rattle.remainders.proofs.Entries.{row_is}
 use Rattle.remainders.proofs.row_passes.Goals as goal
 
-pub others-s-requires : goal.others-s-requires
-others-s-requires c = c.requires
-
-pub overflow_cast-s : goal.overflow_cast-s
-overflow_cast-s c = omega (arith, c.others-s.ensures.1)
-
-pub remainder_at-requires : goal.remainder_at-requires
-remainder_at-requires c = let p = c.requires in (p.0, (p.1, p.1))
-
 pub returns : goal.returns
+unfolding others
 returns c =
-    let s = c.others-s in
-    let r = c.remainder_at in
-    let e : to_z w64 s.result ≡ pos s.result = to_z_pos w64 {n = s.result} (omega (arith, s.ensures.1)) in
     let a = c.args in
-    row_is (remainder_at a.v a.z a.image.now a.factors.now) (command_count a.z) a.i s.result _ _ e s.ensures.0 (back r.result r.type_inv ∙ r.ensures.0)
+    let s = c.others-others in
+    let r = c.remainder_at in
+    let table = remainder_at a.v a.z a.image.now a.factors.now in
+    let e : to_z w64 s.result ≡ pos s.result = omega (arith, ints, s.ensures.most, c.command_count-n.ensures) in
+    let sum = s.ensures.sum (table a.i) (λ j x b q. search rules) ∙ ap (others_in (table a.i) a.i) c.command_count-n.ensures in
+    row_is table (command_count a.z) a.i s.result _ _ e sum (back r.result r.type_inv ∙ r.ensures.0)
