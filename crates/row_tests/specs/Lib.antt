@@ -1,2 +1,0 @@
--- The kinds of test that the checks of the tables share.
-pub mod Tests
