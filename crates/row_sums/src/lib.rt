@@ -6,16 +6,15 @@ ghost use Rattle.gradient.specs.Index.{sum_n};
 ghost use Rattle.image.specs.Sizes.{Whole, command_count, input_count};
 ghost use Rattle.row_sums.specs.Terms.{range_term, gain_term, Answers, RangesReady, RangesY};
 
-use image::{Input, Sizes};
+use image::{Image, Input};
 
 // Y of every command.
-pub fn ranges_y(image: &[u8], z: Sizes) -> [u64; 16]
-    requires { Whole z image.now }
-    ensures { RangesY z image.now result }
+pub fn ranges_y(image: &Image) -> [u64; 16]
+    ensures { RangesY image.now.sizes image.now.bytes.now result }
 {
     let mut y = [0; 16];
-    for k in 0..z.command_count() {
-        y[k] = magnitudes::range_y(image, z, k);
+    for k in 0..image.sizes.command_count() {
+        y[k] = magnitudes::range_y(image, k);
     }
     y
 }
@@ -36,25 +35,25 @@ fn sum_terms<F: Fn(usize) -> u64>(count: usize, cap: u64, term: F) -> u64
 
 // The sum of A of row i, capped, with every Y in y.
 #[tactic(auto, using(crate::proofs::Rows::held_most, crate::proofs::Rows::product_most))]
-pub fn range_sum(image: &[u8], y: &[u64; 16], z: Sizes, i: usize, cap: u64) -> u64
-    requires { (RangesReady z image.now y.now × (i < command_count z)) × (cap ≤ 2 ^ 52) }
-    ensures { result ≡ min (sum_n (range_term z image.now i) (command_count z)) cap }
+pub fn range_sum(image: &Image, y: &[u64; 16], i: usize, cap: u64) -> u64
+    requires { (RangesReady image.now.sizes image.now.bytes.now y.now × (i < command_count image.now.sizes)) × (cap ≤ 2 ^ 52) }
+    ensures { result ≡ min (sum_n (range_term image.now.sizes image.now.bytes.now i) (command_count image.now.sizes)) cap }
 {
-    let row = &image[z.cost_offset(i)..];
+    let row = image.cost_row(i);
     sum_terms(
-        z.command_count(),
+        image.sizes.command_count(),
         cap,
-        |j| image::entry(row, z.b, i, j).unsigned_abs() * y[j],
+        |j| image::entry(row, image.sizes.b, i, j).unsigned_abs() * y[j],
     )
 }
 
 // What an input adds to the sum of B of row i, capped.
-pub fn gain_sum(image: &[u8], z: Sizes, v: Input, i: usize, cap: u64) -> u64
-    requires { (Whole z image.now × (i < command_count z)) × (cap ≤ 2 ^ 52) }
-    ensures { result ≡ min (sum_n (gain_term v z image.now i) (input_count v z)) cap }
+pub fn gain_sum(image: &Image, v: Input, i: usize, cap: u64) -> u64
+    requires { ((i < command_count image.now.sizes)) × (cap ≤ 2 ^ 52) }
+    ensures { result ≡ min (sum_n (gain_term v image.now.sizes image.now.bytes.now i) (input_count v image.now.sizes)) cap }
 {
-    let row = &image[z.gain_offset(v, i)..];
-    sum_terms(z.input_count(v), cap, |j| {
-        word::word_at(row, 4 * j).unsigned_abs() * image::limit_at(image, z, v, j).unsigned_abs()
+    let row = image.gain_row(v, i);
+    sum_terms(image.sizes.input_count(v), cap, |j| {
+        word::word_at(row, 4 * j).unsigned_abs() * image.limit_at(v, j).unsigned_abs()
     })
 }

@@ -16,14 +16,14 @@ use Rattle.headroom.proofs.row_passes.Goals as goal
 
 pub overflow_add-result : goal.overflow_add-result
 overflow_add-result c =
-    let f = pow_pos c.args.z.b in
+    let f = pow_pos c.args.image.now.sizes.b in
     record { fits = omega (arith, c.ceil_div.ensures, c.ceil_div-2.ensures, ceil_most c.range_sum-a.result f, ceil_most c.min-b.result f) }
 
 pub returns : goal.returns
 unfolding row_test
 returns c =
-    let z = c.args.z in
-    let s = c.args.image.now in
+    let z = c.args.image.now.sizes in
+    let s = c.args.image.now.bytes.now in
     let i = c.args.i in
     let range = sum_n (range_term z s i) (command_count z) in
     let gains = λ (v : Input). sum_n (gain_term v z s i) (input_count v z) in

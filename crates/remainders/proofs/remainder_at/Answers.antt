@@ -32,4 +32,4 @@ returns c =
     let a = c.args in
     let p = c.self_product in
     let less : to_z w64 (of_z w64 (to_z w64 (of_z w64 (product d)) -ℤ to_z w64 (of_z w64 p.result))) ≡ product d -ℤ p.result = omega (arith, ints, most d, p.ensures) in
-    rw (scaled d, less) (remainder_is a.v a.z a.image.now a.factors.now a.i a.j c.power-f.result c.difference_at-d.result p.result c.power-f.ensures.0 c.difference_at-d.ensures.0 p.ensures.0, omega (arith, ints, most d, p.ensures))
+    rw (scaled d, less) (remainder_is a.v a.image.now.sizes a.image.now.bytes.now a.factors.now a.i a.j c.power-f.result c.difference_at-d.result p.result c.power-f.ensures.0 c.difference_at-d.ensures.0 p.ensures.0, omega (arith, ints, most d, p.ensures))

@@ -14,7 +14,7 @@ returns c =
     let a = c.args in
     let s = c.others-others in
     let r = c.remainder_at in
-    let table = remainder_at a.v a.z a.image.now a.factors.now in
+    let table = remainder_at a.v a.image.now.sizes a.image.now.bytes.now a.factors.now in
     let e : to_z w64 s.result ≡ pos s.result = omega (arith, ints, s.ensures.most, c.command_count-n.ensures) in
     let sum = s.ensures.sum (table a.i) (λ j x b q. search rules) ∙ ap (others_in (table a.i) a.i) c.command_count-n.ensures in
-    row_is table (command_count a.z) a.i s.result _ _ e sum (back r.result r.type_inv ∙ r.ensures.0)
+    row_is table (command_count a.image.now.sizes) a.i s.result _ _ e sum (back r.result r.type_inv ∙ r.ensures.0)

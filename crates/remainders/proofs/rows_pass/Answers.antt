@@ -9,4 +9,4 @@ pub returns : goal.returns
 unfolding dominated_test
 returns c =
     let a = c.args in
-    all_of_range (row_dominated (remainder_at a.v a.z a.image.now a.factors.now) (command_count a.z)) c.command_count.ensures c.all.ensures.ran (λ i t f k. search rules)
+    all_of_range (row_dominated (remainder_at a.v a.image.now.sizes a.image.now.bytes.now a.factors.now) (command_count a.image.now.sizes)) c.command_count.ensures c.all.ensures.ran (λ i t f k. search rules)

@@ -5,4 +5,4 @@ use Rattle.interface.specs.Tables.{range_test}
 use Rattle.row_tests.proofs.ranges_pass.Goals as goal
 
 pub returns : goal.returns
-returns c = all_of_range (range_test c.args.z c.args.image.now) c.command_count.ensures c.all.ensures.ran (λ x b q k. search (rules, tests))
+returns c = all_of_range (range_test c.args.image.now.sizes c.args.image.now.bytes.now) c.command_count.ensures c.all.ensures.ran (λ x b q k. search (rules, tests))
