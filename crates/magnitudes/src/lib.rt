@@ -38,10 +38,10 @@ fn largest_limit(image: &Image, k: usize) -> u64
 }
 
 // w of command k: its high less its low.
-#[tactic(auto, using(crate::proofs::Bounds::width_most), unfolding(gradient::specs::Bounds::width, image::specs::Layout::command_at))]
-pub fn limit_width(image: &Image, k: usize) -> u64
-    requires { k < command_count image.now.sizes }
-    ensures { (result ≡ width (command_at image.now.sizes image.now.bytes.now k)) × (result < 2 ^ 32) }
+#[tactic(auto, unfolding(gradient::specs::Bounds::width, image::specs::Layout::command_at))]
+pub fn limit_width(image: &[u8], z: Sizes, k: usize) -> u64
+    requires { Whole z image.now × (k < command_count z) }
+    ensures { (result ≡ width (command_at z image.now k)) × (result < 2 ^ 32) }
 {
     image.upper_at(k).abs_diff(image.lower_at(k))
 }

@@ -1,2 +1,0 @@
--- The laws of the magnitudes.
-pub mod Bounds
