@@ -1,63 +1,52 @@
-// The checks of an image's tables, 7, 17 and 8 to 12, in order, and the number of an image.
+// The checks of an image's tables, 7, 17 and 8 to 12, in order, and those of an image.
 #![tactic(auto)]
 
 ghost use Rattle.std.specs.Prelude.{◌≡◌};
+ghost use Rattle.refusal.specs.Number.{number_of};
 ghost use Rattle.image.specs.Sizes.{Whole};
 ghost use Rattle.interface.specs.Tables.{tables_number, image_number};
 
 use image::Sizes;
-use row_tests::Test;
+use refusal::Refusal;
 
 // Checks 7, 17 and 8 to 12, in order.
-#[tactic(auto, using(interface::proofs::Extremes::margins_least, interface::proofs::Extremes::totals_largest), unfolding(interface::specs::Tables::tables_number, row_tests::specs::Tests::test_at))]
-pub fn tables_number(image: &[u8], z: Sizes) -> u32
+#[tactic(auto, using(interface::proofs::Extremes::margins_least, interface::proofs::Extremes::totals_largest), unfolding(interface::specs::Tables::tables_number))]
+pub fn check_tables(image: &[u8], z: Sizes) -> Result<(), Refusal>
     requires { Whole z image.now }
-    ensures { result ≡ tables_number z image.now }
+    ensures { number_of result ≡ tables_number z image.now }
 {
-    if !row_tests::rows_pass(image, z, Test::Ordered) {
-        return 7;
+    if !row_tests::limits_ordered(image, z) {
+        return Err(Refusal::Limits);
     }
-    if !row_tests::rows_pass(image, z, Test::Stoppable) {
-        return 17;
+    if !row_tests::stoppable(image, z) {
+        return Err(Refusal::Stop);
     }
-    if !row_tests::rows_pass(image, z, Test::Symmetric) {
-        return 8;
+    if !row_tests::symmetric(image, z) {
+        return Err(Refusal::Symmetry);
     }
     let x = momentum::extremes_of(image, z);
     if x.margin < 1 {
-        return 9;
+        return Err(Refusal::Margin);
     }
     if dominance::power(z.b) < x.total {
-        return 10;
+        return Err(Refusal::Total);
     }
-    if !momentum::is_momentum(image, z) {
-        return 11;
+    if !momentum::is_momentum(image, z) || !momentum::momentum_passes(image, z, x) {
+        return Err(Refusal::Momentum);
     }
-    if !momentum::momentum_passes(image, z, x) {
-        return 11;
+    if !row_tests::ranges_pass(image, z) || !row_tests::sums_pass(image, z) {
+        return Err(Refusal::Headroom);
     }
-    if !row_tests::rows_pass(image, z, Test::Ranged) {
-        return 12;
-    }
-    if row_tests::sums_pass(image, z) {
-        0
-    } else {
-        12
-    }
+    Ok(())
 }
 
-// The number of an image.
-pub fn image_number(image: &[u8]) -> u32
-    ensures { result ≡ image_number image.now }
+// The checks of an image.
+#[tactic(auto, using(image::proofs::Ordering::handed_on, image::proofs::Ordering::went_on, interface::proofs::Accept::head_whole), unfolding(interface::specs::Tables::image_number))]
+pub fn check_image(image: &[u8]) -> Result<(), Refusal>
+    ensures { number_of result ≡ image_number image.now }
 {
-    let head = integrity::head_number(image);
-    if head != 0 {
-        return head;
-    }
+    integrity::check_head(image)?;
     let z = image::sizes_of(image);
-    let body = integrity::body_number(image, z);
-    if body != 0 {
-        return body;
-    }
-    tables_number(image, z)
+    integrity::check_body(image, z)?;
+    check_tables(image, z)
 }
