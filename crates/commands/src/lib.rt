@@ -5,7 +5,7 @@ ghost use Rattle.std.specs.Prelude.{◌≡◌, true, ◌^◌, ◌≤◌, ◌<◌
 ghost use Rattle.integer.specs.Round.{floor, clamp};
 ghost use Rattle.gradient.specs.Demand.{In64};
 ghost use Rattle.array.specs.Arrays.{Filled, WordsTo, RowsTo};
-ghost use Rattle.commands.specs.Steps.{point_of, z_at, Fitting, SumsTo, StoredY, StoredZ};
+ghost use Rattle.commands.specs.Steps.{command_of, point_of, z_at, Fitting, SumsTo, StoredY, StoredZ};
 
 use array::Limits;
 
@@ -27,14 +27,29 @@ pub fn command(sum: i64, linear: i64, lower: i64, upper: i64, b: u32) -> i64
     integer::clamp(lower, upper, integer::floor_div(sum, b) - linear)
 }
 
+impl CommandTerms {
+    // Command i, from the sum of its row of M y.
+    pub fn command_at(&self, i: usize, sum: i64) -> i64
+        requires { (Fitting self.now × (i < self.now.n)) × In64 sum }
+        ensures { result ≡ command_of self.now i sum }
+    {
+        command(
+            sum,
+            self.linear[i],
+            self.limits.lower[i],
+            self.limits.upper[i],
+            self.b,
+        )
+    }
+}
+
 // Row by row: the new commands, which are M y less the linear term, clamped.
 pub fn next_z(m: &[[i64; 16]; 16], t: CommandTerms, y: &[i64; 16], new: &mut [i64; 16])
     requires { (Fitting t × RowsTo t.n m.now) × ((WordsTo t.n y.now × SumsTo t.n m.now y.now) × (length new.old ≡ 16)) }
     ensures { Filled (pos 0) t.n (z_at m.now t y.now) new.new }
 {
     for i in 0..t.n {
-        let sum = dot::dot(&m[i], y, 0, t.n);
-        new[i] = command(sum, t.linear[i], t.limits.lower[i], t.limits.upper[i], t.b);
+        new[i] = t.command_at(i, dot::dot(&m[i], y, 0, t.n));
     }
 }
 

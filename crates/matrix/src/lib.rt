@@ -13,11 +13,9 @@ fn matrix_row(row: &[u8], i: usize, n: usize, b: u32) -> [i64; 16]
     requires { (n ≤ 16) × ((b ≤ 20) × (4 * n ≤ length row.now)) }
     ensures { Filled (pos 0) n (entry_of b row.now i) result }
 {
-    let mut r = array::blank();
-    let mut j = 0;
-    while j < n {
+    let mut r = [0; 16];
+    for j in 0..n {
         r[j] = image::entry(row, b, i, j);
-        j += 1;
     }
     r
 }
@@ -28,14 +26,11 @@ pub fn matrix(image: &[u8], z: Sizes) -> [[i64; 16]; 16]
     requires { Whole z image.now }
     ensures { Tabled (pos 0) (command_count z) (entry_at z image.now) result }
 {
-    let n = z.nu * z.steps;
-    let mut m = array::blank_table();
-    let mut i = 0;
-    while i < n {
-        let at = image::cost_offset(z, i);
-        let r = matrix_row(&image[at..], i, n, z.b);
-        m[i] = r;
-        i += 1;
+    let n = z.command_count();
+    let mut m = [[0; 16]; 16];
+    for i in 0..n {
+        let row = &image[z.cost_offset(i)..];
+        m[i] = matrix_row(row, i, n, z.b);
     }
     m
 }
@@ -45,11 +40,9 @@ pub fn magnitude_row(row: &[i64; 16], n: usize) -> [u64; 16]
     requires { (n ≤ 16) × WordsTo n row.now }
     ensures { Filled 0 n (λ j. nat_abs (get_or row.now j (pos 0))) result }
 {
-    let mut r = array::blank_errors();
-    let mut j = 0;
-    while j < n {
-        r[j] = integer::magnitude(row[j]);
-        j += 1;
+    let mut r = [0; 16];
+    for j in 0..n {
+        r[j] = row[j].unsigned_abs();
     }
     r
 }
@@ -60,12 +53,9 @@ pub fn magnitudes_of(m: &[[i64; 16]; 16], n: usize) -> [[u64; 16]; 16]
     requires { (n ≤ 16) × RowsTo n m.now }
     ensures { Tabled 0 n (λ i j. nat_abs (get_or (get_or m.now i []) j (pos 0))) result }
 {
-    let mut r = array::blank_magnitudes();
-    let mut i = 0;
-    while i < n {
-        let row = magnitude_row(&m[i], n);
-        r[i] = row;
-        i += 1;
+    let mut r = [[0; 16]; 16];
+    for i in 0..n {
+        r[i] = magnitude_row(&m[i], n);
     }
     r
 }

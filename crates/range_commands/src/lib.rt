@@ -5,6 +5,7 @@ ghost use Rattle.std.specs.Prelude.{◌≡◌, length};
 ghost use Rattle.range_commands.specs.Steps.{EndsReady, NewEnds};
 
 use commands::CommandTerms;
+use range_sums::Ends;
 
 // The lowest commands take the lowest sum of M y and the terms t, which hold the highest h; the highest commands take the highest sum and the terms u, which hold the lowest h.
 #[inline(never)]
@@ -13,22 +14,17 @@ pub fn next_ends(
     magnitudes: &[[u64; 16]; 16],
     t: CommandTerms,
     u: CommandTerms,
-    below: &[i64; 16],
-    above: &[i64; 16],
-    low: &mut [i64; 16],
-    high: &mut [i64; 16],
+    y: &Ends<[i64; 16]>,
+    new: &mut Ends<[i64; 16]>,
 )
-    requires { EndsReady m.now magnitudes.now t u below.now above.now × ((length low.old ≡ 16) × (length high.old ≡ 16)) }
-    ensures { NewEnds m.now t u below.now above.now low.new high.new }
+    requires { EndsReady m.now magnitudes.now t u y.now.low y.now.high × ((length new.old.low ≡ 16) × (length new.old.high ≡ 16)) }
+    ensures { NewEnds m.now t u y.now.low y.now.high new.new.low new.new.high }
 {
-    let n = t.n;
-    let sums = range_sums::sums_of(below, above, n);
-    let widths = range_sums::widths_of(below, above, n);
-    let mut i = 0;
-    while i < n {
-        let x = range_sums::row_ends(&m[i], &magnitudes[i], &sums, &widths, n);
-        low[i] = commands::command(x.low, t.linear[i], t.lower[i], t.upper[i], t.b);
-        high[i] = commands::command(x.high, u.linear[i], u.lower[i], u.upper[i], u.b);
-        i += 1;
+    let sums = range_sums::sums_of(&y.low, &y.high, t.n);
+    let widths = range_sums::widths_of(&y.low, &y.high, t.n);
+    for i in 0..t.n {
+        let x = range_sums::row_ends(&m[i], &magnitudes[i], &sums, &widths, t.n);
+        new.low[i] = t.command_at(i, x.low);
+        new.high[i] = u.command_at(i, x.high);
     }
 }
