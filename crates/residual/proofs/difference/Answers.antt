@@ -78,13 +78,8 @@ overflow_mul-f c = rw (one (goal.at.overflow_mul-f c).Start, to_z-of_z c.ranges.
 pub overflow_sub-held : goal.overflow_sub-held
 overflow_sub-held c = rw (held c, one (goal.at.overflow_sub-held c).Start, to_z-of_z c.ranges.z, to_z-of_z (fits-here (goal.at.overflow_sub-held c).Start)) (fits-apart (goal.at.overflow_sub-held c).Start)
 
-pub magnitude-requires : goal.magnitude-requires
-magnitude-requires c =
-    rw (held c, one (goal.at.magnitude-requires c).Start, to_z-of_z c.ranges.z, to_z-of_z (fits-here (goal.at.magnitude-requires c).Start), to_z-of_z (fits-apart (goal.at.magnitude-requires c).Start))
-    (omega (arith, size-apart (goal.at.magnitude-requires c).Start))
-
 pub returns : goal.returns
 unfolding difference_of
 returns c =
     rw (held (goal.at.returns c).After-clamp-held, one (goal.at.returns c).Start, to_z-of_z c.ranges.z, to_z-of_z (fits-here (goal.at.returns c).Start), to_z-of_z (fits-apart (goal.at.returns c).Start))
-    at c.magnitude.ensures
+    at c.unsigned_abs.ensures.value

@@ -56,10 +56,10 @@ module _ (c : After-difference-arg-in-loop-i-2-1) where
   d = (goal.at.After-difference-arg-in-loop-i-2-1 c).After-step-1
 
   abbrev low : ℤ
-  low = get_or (start d).args.t.lower (i d) (pos 0)
+  low = get_or (start d).args.t.limits.lower (i d) (pos 0)
 
   abbrev high : ℤ
-  high = get_or (start d).args.t.upper (i d) (pos 0)
+  high = get_or (start d).args.t.limits.upper (i d) (pos 0)
 
   abbrev command : ℤ
   command = get_or (start d).args.z.now (i d) (pos 0)
@@ -83,56 +83,8 @@ module _ (c : After-difference-arg-in-loop-i-2-1) where
   command-back : to_z w64 (of_z w64 command) ≡ command
   command-back = to_z-of_z (fit_abs command (omega (arith, small.command)))
 
-pub loop-i-init : goal.loop-i-init
-loop-i-init c = (omega arith, refl)
-
-pub offset_bounds-m-i : goal.offset_bounds-m-i
-offset_bounds-m-i c = omega arith
-
-pub bounds-m-i : goal.bounds-m-i
-bounds-m-i c = omega arith
-
 pub dot-requires : goal.dot-requires
 dot-requires c = part (c.requires.rows c.loop-i.i (omega arith)) (omega arith)
-
-pub offset_bounds-t-i : goal.offset_bounds-t-i
-offset_bounds-t-i c = omega arith
-
-pub bounds-t-i : goal.bounds-t-i
-bounds-t-i c = omega arith
-
-pub overflow_sub-step : goal.overflow_sub-step
-overflow_sub-step c = rw (row c, to_z-of_z (fh c)) (fits c)
-
-pub offset_bounds-t-i-in-loop-i : goal.offset_bounds-t-i-in-loop-i
-offset_bounds-t-i-in-loop-i c = omega arith
-
-pub bounds-t-i-in-loop-i : goal.bounds-t-i-in-loop-i
-bounds-t-i-in-loop-i c = omega arith
-
-pub offset_bounds-t-i-in-loop-i-2 : goal.offset_bounds-t-i-in-loop-i-2
-offset_bounds-t-i-in-loop-i-2 c = omega arith
-
-pub bounds-t-i-in-loop-i-2 : goal.bounds-t-i-in-loop-i-2
-bounds-t-i-in-loop-i-2 c = omega arith
-
-pub offset_bounds-z-i : goal.offset_bounds-z-i
-offset_bounds-z-i c = omega arith
-
-pub bounds-z-i : goal.bounds-z-i
-bounds-z-i c = omega arith
-
-pub difference-requires : goal.difference-requires
-difference-requires c = rw (made (d c), low-back c, high-back c, command-back c) (small c)
-
-pub larger-r-requires : goal.larger-r-requires
-larger-r-requires c = tt
-
-pub overflow_add-i : goal.overflow_add-i
-overflow_add-i c = omega arith
-
-pub loop-i-smaller : goal.loop-i-smaller
-loop-i-smaller c = omega arith
 
 pub loop-i-preserved : goal.loop-i-preserved
 unfolding difference_at
@@ -141,11 +93,4 @@ loop-i-preserved c =
     let a = (start (d (goal.at.loop-i-preserved c).After-difference-arg-in-loop-i-2-1)).args in
     let f = difference_at a.m.now a.t a.z.now in
     let e : c.difference.result ≡ f (i (d (goal.at.loop-i-preserved c).After-difference-arg-in-loop-i-2-1)) = rw (made (d (goal.at.loop-i-preserved c).After-difference-arg-in-loop-i-2-1), low-back (goal.at.loop-i-preserved c).After-difference-arg-in-loop-i-2-1, high-back (goal.at.loop-i-preserved c).After-difference-arg-in-loop-i-2-1, command-back (goal.at.loop-i-preserved c).After-difference-arg-in-loop-i-2-1) at c.difference.ensures in
-    (omega arith, c.larger-r.ensures ∙ ap (λ (k : ℕ). max k c.difference.result) c.loop-i.invariant.1 ∙ ap (λ (k : ℕ). max (largest_n f (i (d (goal.at.loop-i-preserved c).After-difference-arg-in-loop-i-2-1))) k) e ∙ sym (largest_n_next f (i (d (goal.at.loop-i-preserved c).After-difference-arg-in-loop-i-2-1))))
-
-pub returns : goal.returns
-returns c =
-    let a = c.args in
-    let l = c.loop-i in
-    let e : l.i ≡ a.t.n = omega arith in
-    l.invariant.1 ∙ ap (largest_n (difference_at a.m.now a.t a.z.now)) e
+    c.max-r.ensures ∙ ap (λ (k : ℕ). max k c.difference.result) c.loop-i.invariant ∙ ap (λ (k : ℕ). max (largest_n f (i (d (goal.at.loop-i-preserved c).After-difference-arg-in-loop-i-2-1))) k) e ∙ sym (largest_n_next f (i (d (goal.at.loop-i-preserved c).After-difference-arg-in-loop-i-2-1)))
