@@ -38,8 +38,8 @@ use Rattle.distance.specs.Tables.{ResidualTermsOf, Measurable}
 pub record HasResidual (p : Problem) (inputs zs : List ℤ) (t : ResidualTerms) (z : List ℤ) : Type 0 where
   pub n_is : t.n ≡ length p.commands
   pub b_is : t.b ≡ p.b
-  pub lowers : (i : ℕ) → i < length p.commands → get_or t.lower i (pos 0) ≡ (command p i).lower
-  pub uppers : (i : ℕ) → i < length p.commands → get_or t.upper i (pos 0) ≡ (command p i).upper
+  pub lowers : (i : ℕ) → i < length p.commands → get_or t.limits.lower i (pos 0) ≡ (command p i).lower
+  pub uppers : (i : ℕ) → i < length p.commands → get_or t.limits.upper i (pos 0) ≡ (command p i).upper
   pub linears : (i : ℕ) → i < length p.commands → get_or t.linear i (pos 0) ≡ exact_linear inputs (command p i)
   pub commands : (i : ℕ) → i < length p.commands → get_or z i (pos 0) ≡ get_or zs i (pos 0)
 

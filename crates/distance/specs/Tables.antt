@@ -13,8 +13,8 @@ use Rattle.residual.specs.declared.ResidualTerms.{ResidualTerms}
 
 -- the arrays
 pub record ResidualTermsOf (z : Sizes) (image state target : List ℕ) (t : ResidualTerms) : Type 0 where
-  pub lowers : Filled (pos 0) (command_count z) (lower_at z image) t.lower
-  pub uppers : Filled (pos 0) (command_count z) (upper_at z image) t.upper
+  pub lowers : Filled (pos 0) (command_count z) (lower_at z image) t.limits.lower
+  pub uppers : Filled (pos 0) (command_count z) (upper_at z image) t.limits.upper
   pub linears : Filled (pos 0) (command_count z) (exact_at z image state target) t.linear
   pub n_is : t.n ≡ command_count z
   pub b_is : t.b ≡ z.b

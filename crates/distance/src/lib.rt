@@ -19,16 +19,10 @@ fn residual_terms(image: &[u8], state: &[u8], target: &[u8], z: Sizes) -> Residu
     requires { Loadable z image.now state.now target.now }
     ensures { ResidualTermsOf z image.now state.now target.now result }
 {
-    let n = z.nu * z.steps;
-    let l = loading::limits_of(image, z);
-    let lower = l.lower;
-    let upper = l.upper;
-    let linear = loading::exact_terms(image, state, target, z);
     ResidualTerms {
-        lower,
-        upper,
-        linear,
-        n,
+        limits: loading::limits_of(image, z),
+        linear: loading::exact_terms(image, state, target, z),
+        n: z.command_count(),
         b: z.b,
     }
 }

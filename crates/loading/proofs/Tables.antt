@@ -114,8 +114,8 @@ pub record HasTerms (p : Problem) (f : Command → ℤ) (t : CommandTerms) : Typ
   pub n_is : t.n ≡ length p.commands
   pub b_is : t.b ≡ p.b
   pub momentum_is : t.momentum ≡ p.momentum
-  pub lowers : (i : ℕ) → i < length p.commands → get_or t.lower i (pos 0) ≡ (command p i).lower
-  pub uppers : (i : ℕ) → i < length p.commands → get_or t.upper i (pos 0) ≡ (command p i).upper
+  pub lowers : (i : ℕ) → i < length p.commands → get_or t.limits.lower i (pos 0) ≡ (command p i).lower
+  pub uppers : (i : ℕ) → i < length p.commands → get_or t.limits.upper i (pos 0) ≡ (command p i).upper
   pub linears : (i : ℕ) → i < length p.commands → get_or t.linear i (pos 0) ≡ f (command p i)
 
 abbrev pub HasCommands : Problem → List ℤ → CommandTerms → Type 0

@@ -11,7 +11,7 @@ use Rattle.interface.specs.Calls.{inputs_of}
 use Rattle.array.specs.Arrays.{Filled}
 use Rattle.commands.specs.declared.CommandTerms.{CommandTerms}
 use Rattle.bounds.specs.declared.BoundTerms.{BoundTerms}
-use Rattle.loading.specs.declared.Limits.{Limits}
+use Rattle.array.specs.declared.Limits.{Limits}
 
 -- at command i: G, "the sum of Φ times the state, undivided", with "the target products, undivided"; h, the same divided; w
 abbrev pub exact_at : Sizes → List ℕ → List ℕ → List ℕ → ℕ → ℤ
@@ -37,8 +37,8 @@ pub record Loadable (z : Sizes) (image state target : List ℕ) : Type 0 where
 
 -- what stays the same over the iterations of the commands, but for M, where f are the linear terms
 pub record TermsOf (z : Sizes) (image : List ℕ) (f : ℕ → ℤ) (t : CommandTerms) : Type 0 where
-  pub lowers : Filled (pos 0) (command_count z) (lower_at z image) t.lower
-  pub uppers : Filled (pos 0) (command_count z) (upper_at z image) t.upper
+  pub lowers : Filled (pos 0) (command_count z) (lower_at z image) t.limits.lower
+  pub uppers : Filled (pos 0) (command_count z) (upper_at z image) t.limits.upper
   pub linears : Filled (pos 0) (command_count z) f t.linear
   pub momentum_is : t.momentum ≡ nat_abs (momentum_at z image)
   pub n_is : t.n ≡ command_count z

@@ -9,30 +9,21 @@ ghost use Rattle.gradient.specs.Index.{sum_z};
 ghost use Rattle.dot.specs.Sums.{input_term, RunsTo};
 ghost use Rattle.loading.specs.Tables.{exact_at, linear_at, width_at, LimitsOf, Loadable, TermsOf, CommandTermsOf, BoundTermsOf};
 
+use array::Limits;
 use bounds::BoundTerms;
 use commands::CommandTerms;
 use image::{Input, Sizes};
-
-// A low and a high limit for each command.
-#[derive(Drop)]
-pub struct Limits {
-    pub lower: [i64; 16],
-    pub upper: [i64; 16],
-}
 
 // The limits of the image's commands.
 pub fn limits_of(image: &[u8], z: Sizes) -> Limits
     requires { Whole z image.now }
     ensures { LimitsOf z image.now result }
 {
-    let n = z.nu * z.steps;
-    let mut lower = array::blank();
-    let mut upper = array::blank();
-    let mut i = 0;
-    while i < n {
+    let mut lower = [0; 16];
+    let mut upper = [0; 16];
+    for i in 0..z.command_count() {
         lower[i] = image::lower_at(image, z, i);
         upper[i] = image::upper_at(image, z, i);
-        i += 1;
     }
     Limits { lower, upper }
 }
@@ -42,9 +33,8 @@ pub fn gain_sum(image: &[u8], x: &[i64; 16], z: Sizes, v: Input, i: usize) -> i6
     requires { (Whole z image.now × (i < command_count z)) × (WordsTo (input_count v z) x.now × RunsTo (input_count v z) (input_term (gain_row v z image.now i) x.now)) }
     ensures { result ≡ sum_z (input_term (gain_row v z image.now i) x.now) 0 (input_count v z) }
 {
-    let at = image::gain_offset(z, v, i);
-    let count = image::input_count(z, v);
-    dot::row_sum(&image[at..], x, count)
+    let row = &image[z.gain_offset(v, i)..];
+    dot::row_sum(row, x, z.input_count(v))
 }
 
 // The linear term of each command, undivided: one sum over state and target.
@@ -52,14 +42,11 @@ pub fn exact_terms(image: &[u8], state: &[u8], target: &[u8], z: Sizes) -> [i64;
     requires { Loadable z image.now state.now target.now }
     ensures { Filled (pos 0) (command_count z) (exact_at z image.now state.now target.now) result }
 {
-    let n = z.nu * z.steps;
     let x = array::words_of(state, z.nx);
     let y = array::words_of(target, z.nr);
-    let mut r = array::blank();
-    let mut i = 0;
-    while i < n {
+    let mut r = [0; 16];
+    for i in 0..z.command_count() {
         r[i] = gain_sum(image, &x, z, Input::State, i) + gain_sum(image, &y, z, Input::Target, i);
-        i += 1;
     }
     r
 }
@@ -69,13 +56,10 @@ fn linear_terms(image: &[u8], state: &[u8], target: &[u8], z: Sizes) -> [i64; 16
     requires { Loadable z image.now state.now target.now }
     ensures { Filled (pos 0) (command_count z) (linear_at z image.now state.now target.now) result }
 {
-    let n = z.nu * z.steps;
     let g = exact_terms(image, state, target, z);
-    let mut r = array::blank();
-    let mut i = 0;
-    while i < n {
+    let mut r = [0; 16];
+    for i in 0..z.command_count() {
         r[i] = integer::floor_div(g[i], z.b);
-        i += 1;
     }
     r
 }
@@ -85,17 +69,11 @@ pub fn terms_with(image: &[u8], z: Sizes, linear: [i64; 16]) -> CommandTerms
     requires { Whole z image.now × (length linear ≡ 16) }
     ensures { TermsOf z image.now (λ i. get_or linear i (pos 0)) result }
 {
-    let n = z.nu * z.steps;
-    let l = limits_of(image, z);
-    let lower = l.lower;
-    let upper = l.upper;
-    let momentum = magnitudes::momentum_size(image, z);
     CommandTerms {
-        lower,
-        upper,
+        limits: limits_of(image, z),
         linear,
-        momentum,
-        n,
+        momentum: magnitudes::momentum_size(image, z),
+        n: z.command_count(),
         b: z.b,
     }
 }
@@ -114,12 +92,9 @@ fn widths_of(image: &[u8], z: Sizes) -> [u64; 16]
     requires { Whole z image.now }
     ensures { Filled 0 (command_count z) (width_at z image.now) result }
 {
-    let n = z.nu * z.steps;
-    let mut r = array::blank_errors();
-    let mut i = 0;
-    while i < n {
+    let mut r = [0; 16];
+    for i in 0..z.command_count() {
         r[i] = magnitudes::limit_width(image, z, i);
-        i += 1;
     }
     r
 }
@@ -129,13 +104,10 @@ pub fn bound_terms(image: &[u8], z: Sizes) -> BoundTerms
     requires { Whole z image.now }
     ensures { BoundTermsOf z image.now result }
 {
-    let n = z.nu * z.steps;
-    let width = widths_of(image, z);
-    let momentum = magnitudes::momentum_size(image, z);
     BoundTerms {
-        width,
-        momentum,
-        n,
+        width: widths_of(image, z),
+        momentum: magnitudes::momentum_size(image, z),
+        n: z.command_count(),
         b: z.b,
     }
 }

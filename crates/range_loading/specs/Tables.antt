@@ -12,9 +12,8 @@ use Rattle.ranges.specs.Interval.{End, low, high, end_of, taken_end, taken_ends}
 use Rattle.ranges.specs.Sweeps.{linear_interval}
 use Rattle.range_interface.specs.Calls.{range_inputs_of}
 use Rattle.array.specs.Arrays.{Filled}
-use Rattle.range_sums.specs.declared.RowEnds.{RowEnds}
+use Rattle.range_sums.specs.declared.Ends.{Ends}
 use Rattle.range_sums.specs.Ends.{value_at, Ranged}
-use Rattle.range_loading.specs.declared.LinearEnds.{LinearEnds}
 
 -- term j of an end of the sum of row i of Φ: a word of the image times the end that it takes, undivided
 unfoldable pub gain_term : End → Sizes → List ℕ → List ℤ → List ℤ → ℕ → ℕ → ℤ
@@ -27,7 +26,7 @@ pub record GainReady (z : Sizes) (image : List ℕ) (lows highs : List ℤ) (i :
   pub values : Ranged lows highs z.nx
   pub sums : (e : End) (a k : ℕ) → a + k ≤ z.nx → nat_abs (sum_z (gain_term e z image lows highs i) a k) < 2 ^ 51
 
-pub record GainEndsOf (z : Sizes) (image : List ℕ) (lows highs : List ℤ) (i : ℕ) (x : RowEnds) : Type 0 where
+pub record GainEndsOf (z : Sizes) (image : List ℕ) (lows highs : List ℤ) (i : ℕ) (x : Ends ℤ) : Type 0 where
   pub low_sum : x.low ≡ sum_z (gain_term low z image lows highs i) 0 z.nx
   pub high_sum : x.high ≡ sum_z (gain_term high z image lows highs i) 0 z.nx
 
@@ -47,6 +46,6 @@ pub record RangeLoadable (z : Sizes) (image ranges target : List ℕ) : Type 0 w
 abbrev pub linear_end : End → Sizes → List ℕ → List ℕ → List ℕ → ℕ → ℤ
 linear_end e z image ranges target i = end_of e (linear_interval (problem_at z image) (range_inputs_of z ranges target) (command_at z image i))
 
-pub record LinearEndsOf (z : Sizes) (image ranges target : List ℕ) (r : LinearEnds) : Type 0 where
+pub record LinearEndsOf (z : Sizes) (image ranges target : List ℕ) (r : Ends (List ℤ)) : Type 0 where
   pub lowest : Filled (pos 0) (command_count z) (linear_end low z image ranges target) r.low
   pub highest : Filled (pos 0) (command_count z) (linear_end high z image ranges target) r.high

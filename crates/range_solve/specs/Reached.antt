@@ -7,7 +7,7 @@ use Rattle.array.specs.Arrays.{Filled}
 use Rattle.ranges.specs.Interval.{Interval, degenerate, End, low, high, end_of}
 use Rattle.ranges.specs.Sweeps.{interval_iterate}
 use Rattle.range_interface.specs.Calls.{ranges_after}
-use Rattle.range_solve.specs.declared.Carried.{Carried}
+use Rattle.range_sums.specs.declared.Ends.{Ends}
 
 -- an array holds an end of n intervals
 abbrev pub EndFilled : End → ℕ → List Interval → List ℤ → Type 0
@@ -21,6 +21,6 @@ pub record CarriedAt (p : Problem) (inputs : List Interval) (start : List ℤ) (
   pub at_high_y : EndFilled high (length p.commands) (interval_iterate p inputs start k).y high-y
 
 -- the carried commands of a call after k iterations
-pub record CarriedOf (image ranges target start : List ℕ) (k : ℕ) (r : Carried) : Type 0 where
+pub record CarriedOf (image ranges target start : List ℕ) (k : ℕ) (r : Ends (List ℤ)) : Type 0 where
   pub lowest : EndFilled low (command_count (sizes_of image)) (ranges_after image ranges target start k) r.low
   pub highest : EndFilled high (command_count (sizes_of image)) (ranges_after image ranges target start k) r.high

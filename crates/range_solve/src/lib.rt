@@ -8,12 +8,7 @@ ghost use Rattle.range_interface.specs.Accepted.{RangeSolvable};
 ghost use Rattle.solve.specs.Reached.{MatrixOf};
 ghost use Rattle.range_solve.specs.Reached.{CarriedOf};
 
-// The lowest commands and the highest.
-#[derive(Drop)]
-pub struct Carried {
-    pub low: [i64; 16],
-    pub high: [i64; 16],
-}
+use range_sums::Ends;
 
 // Both after a number of iterations: the lowest commands take the highest linear terms, and the new y of an end takes the old commands of the opposite end. Once an iteration changes neither end, none after it does.
 #[inline(never)]
@@ -24,44 +19,35 @@ fn carried_after(
     start: &[u8],
     m: &[[i64; 16]; 16],
     count: usize,
-) -> Carried
+) -> Ends<[i64; 16]>
     requires { RangeSolvable image.now ranges.now target.now start.now × MatrixOf image.now m.now }
     ensures { CarriedOf image.now ranges.now target.now start.now count result }
 {
     let s = image::sizes_of(image);
     let h = range_loading::linear_ends(image, ranges, target, s);
-    let highest = h.high;
-    let lowest = h.low;
-    let t = loading::terms_with(image, s, highest);
-    let u = loading::terms_with(image, s, lowest);
+    let t = loading::terms_with(image, s, h.high);
+    let u = loading::terms_with(image, s, h.low);
     let magnitudes = matrix::magnitudes_of(m, t.n);
-    let mut low = array::words_of(start, t.n);
-    let mut high = low;
-    let mut below = low;
-    let mut above = low;
-    let mut new_low = array::blank();
-    let mut new_high = array::blank();
-    let mut k = 0;
-    while k < count {
-        range_commands::next_ends(
-            m,
-            &magnitudes,
-            t,
-            u,
-            &below,
-            &above,
-            &mut new_low,
-            &mut new_high,
-        );
-        let a = commands::store_y(t.n, t.b, t.momentum, &new_low, &high, &mut below, true);
-        let b = commands::store_y(u.n, u.b, u.momentum, &new_high, &low, &mut above, a);
-        let c = commands::store_z(t.n, &new_low, &mut low, b);
-        if commands::store_z(u.n, &new_high, &mut high, c) {
-            return Carried { low, high };
+    let first = array::words_of(start, t.n);
+    let mut z = Ends {
+        low: first,
+        high: first,
+    };
+    let mut y = z;
+    let mut new = Ends {
+        low: [0; 16],
+        high: [0; 16],
+    };
+    for _ in 0..count {
+        range_commands::next_ends(m, &magnitudes, t, u, &y, &mut new);
+        let a = commands::store_y(t.n, t.b, t.momentum, &new.low, &z.high, &mut y.low, true);
+        let b = commands::store_y(u.n, u.b, u.momentum, &new.high, &z.low, &mut y.high, a);
+        let c = commands::store_z(t.n, &new.low, &mut z.low, b);
+        if commands::store_z(u.n, &new.high, &mut z.high, c) {
+            return z;
         }
-        k += 1;
     }
-    Carried { low, high }
+    z
 }
 
 // The lowest and then the highest commands after the image's number of iterations are written.
@@ -73,10 +59,7 @@ pub fn range_solve(image: &[u8], ranges: &[u8], target: &[u8], start: &[u8], ans
     let count = s.sweeps;
     let m = matrix::matrix(image, s);
     let r = carried_after(image, ranges, target, start, &m, count);
-    let low = r.low;
-    let high = r.high;
-    let n = answer.len() / 8;
-    let at = 4 * n;
-    word::put_words(&mut answer[..at], &low[..n]);
-    word::put_words(&mut answer[at..], &high[..n]);
+    let n = s.command_count();
+    word::put_words(&mut answer[..4 * n], &r.low[..n]);
+    word::put_words(&mut answer[4 * n..], &r.high[..n]);
 }

@@ -22,17 +22,15 @@ fn commands_after(
 {
     let s = image::sizes_of(image);
     let t = loading::command_terms(image, state, target, s);
-    let mut new = array::blank();
+    let mut new = [0; 16];
     let mut z = array::words_of(start, t.n);
     let mut y = z;
-    let mut k = 0;
-    while k < count {
+    for _ in 0..count {
         commands::next_z(&m, t, &y, &mut new);
         let same = commands::store_y(t.n, t.b, t.momentum, &new, &z, &mut y, true);
         if commands::store_z(t.n, &new, &mut z, same) {
             return z;
         }
-        k += 1;
     }
     z
 }
@@ -45,16 +43,14 @@ fn bounds_after(image: &[u8], m: [[i64; 16]; 16], count: usize) -> [u64; 16]
     let s = image::sizes_of(image);
     let t = loading::bound_terms(image, s);
     let magnitudes = matrix::magnitudes_of(&m, t.n);
-    let mut e = array::blank_errors();
-    let mut q = array::blank_errors();
-    let mut new = array::blank_errors();
-    let mut k = 0;
-    while k < count {
+    let mut e = [0; 16];
+    let mut q = [0; 16];
+    let mut new = [0; 16];
+    for _ in 0..count {
         bounds::next_e(&magnitudes, t, &q, &mut new);
         if bounds::store(t, &new, &mut e, &mut q) {
             return e;
         }
-        k += 1;
     }
     e
 }
@@ -86,7 +82,7 @@ pub fn solve(image: &[u8], state: &[u8], target: &[u8], start: &[u8], answer: &m
 {
     let s = image::sizes_of(image);
     let count = s.sweeps;
-    let n = s.nu * s.steps;
+    let n = s.command_count();
     let m = matrix::matrix(image, s);
     let z = commands_after(image, state, target, start, m, count);
     let e = bounds_after(image, m, count);
@@ -98,9 +94,5 @@ pub fn solve(image: &[u8], state: &[u8], target: &[u8], start: &[u8], answer: &m
 pub fn cold_start(start: &mut [u8])
     ensures { start.new ≡ replicate (length start.old) 0 }
 {
-    let mut i = 0;
-    while i < start.len() {
-        start[i] = 0;
-        i += 1;
-    }
+    start.fill(0);
 }

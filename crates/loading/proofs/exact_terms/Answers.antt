@@ -8,10 +8,9 @@ use mir.Facts.{to_z-of_z}
 use Rattle.integer.proofs.Machine.{back, fit_abs}
 use Rattle.gradient.specs.Index.{sum_z}
 use Rattle.image.specs.declared.Input.TheVariants.{State, Target}
-use Rattle.image.specs.Sizes.{command_count}
 use Rattle.image.specs.Layout.{gain_row}
 use Rattle.dot.specs.Sums.{input_term}
-use Rattle.array.proofs.Filling.{none, more, full}
+use Rattle.array.proofs.Filling.{filled_more}
 use Rattle.loading.specs.Tables.{exact_at}
 use Rattle.loading.proofs.Tables.{LinearOf, linear_of}
 use Rattle.loading.proofs.exact_terms.Goals.{After-gain_sum-in-loop-i, After-words_of-x, After-words_of-y, In-loop-i, Start}
@@ -34,7 +33,7 @@ module _ (l : In-loop-i) where
   linear : LinearOf a.args.z a.args.image.now a.args.state.now a.args.target.now i xs.words_of-x.result ys.words_of-y.result
   linear =
       linear_of a.args.z a.args.image.now a.args.state.now a.args.target.now i xs.words_of-x.result ys.words_of-y.result xs.words_of-x.ensures.0 ys.words_of-y.ensures.0
-      (a.requires.sums i l.loop-i-test.true)
+      (a.requires.sums i (omega arith))
 
 -- a turn's two sums, and that they are one
 module _ (c : After-gain_sum-in-loop-i) where
@@ -58,42 +57,17 @@ module _ (c : After-gain_sum-in-loop-i) where
   fits : SFits w64 (x +ℤ y)
   fits = fit_abs (x +ℤ y) (rw one (linear l).within)
 
-pub blank-r-requires : goal.blank-r-requires
-blank-r-requires c = tt
-
-pub loop-i-init : goal.loop-i-init
-loop-i-init c =
-    let a = c.args in
-    none (pos 0) (λ k h. h ≡ exact_at a.z a.image.now a.state.now a.target.now k) (command_count a.z) c.blank-r.result c.blank-r.ensures
-
 pub gain_sum-requires : goal.gain_sum-requires
-gain_sum-requires c = let l = c in (((a (goal.at.gain_sum-requires c).In-loop-i).requires.whole, l.loop-i-test.true), ((xs (goal.at.gain_sum-requires c).In-loop-i).words_of-x.ensures.1, (linear (goal.at.gain_sum-requires c).In-loop-i).state_runs))
+gain_sum-requires c = let l = c in (((a (goal.at.gain_sum-requires c).In-loop-i).requires.whole, omega arith), ((xs (goal.at.gain_sum-requires c).In-loop-i).words_of-x.ensures.1, (linear (goal.at.gain_sum-requires c).In-loop-i).state_runs))
 
 pub gain_sum-requires-in-loop-i : goal.gain_sum-requires-in-loop-i
-gain_sum-requires-in-loop-i c = let l = c in (((a (goal.at.gain_sum-requires-in-loop-i c).In-loop-i).requires.whole, l.loop-i-test.true), ((ys (goal.at.gain_sum-requires-in-loop-i c).In-loop-i).words_of-y.ensures.1, (linear (goal.at.gain_sum-requires-in-loop-i c).In-loop-i).target_runs))
+gain_sum-requires-in-loop-i c = let l = c in (((a (goal.at.gain_sum-requires-in-loop-i c).In-loop-i).requires.whole, omega arith), ((ys (goal.at.gain_sum-requires-in-loop-i c).In-loop-i).words_of-y.ensures.1, (linear (goal.at.gain_sum-requires-in-loop-i c).In-loop-i).target_runs))
 
 pub overflow_add-r : goal.overflow_add-r
 overflow_add-r c = rw (back (x c) c.gain_sum.type_inv, back (y c) c.gain_sum-in-loop-i.type_inv) (fits c)
 
-pub offset_bounds-r-i : goal.offset_bounds-r-i
-offset_bounds-r-i c = omega arith
-
-pub bounds-r-i : goal.bounds-r-i
-bounds-r-i c = omega (arith, (a (l c)).requires.whole.sizes.n_high)
-
-pub overflow_add-i : goal.overflow_add-i
-overflow_add-i c = omega (arith, (a (l c)).requires.whole.sizes.n_high)
-
-pub loop-i-smaller : goal.loop-i-smaller
-loop-i-smaller c = omega arith
-
 pub loop-i-preserved : goal.loop-i-preserved
 loop-i-preserved c =
     let s = (a (l c)).args in
-    more (pos 0) (λ k h. h ≡ exact_at s.z s.image.now s.state.now s.target.now k) _ (a (l c)).requires.whole.sizes.n_high (l c).loop-i-test.true (l c).before.loop-i.invariant
+    filled_more (pos 0) (exact_at s.z s.image.now s.state.now s.target.now) _ (omega (arith, (a (l c)).requires.whole.sizes.n_high)) c.loop-i.invariant
     (rw (back (x c) c.gain_sum.type_inv, back (y c) c.gain_sum-in-loop-i.type_inv, to_z-of_z (fits c)) (one c ∙ (linear (l c)).undivided))
-
-pub returns : goal.returns
-returns c =
-    let s = c.args in
-    full (pos 0) (exact_at s.z s.image.now s.state.now s.target.now) c.loop-i-test.false c.loop-i.invariant
