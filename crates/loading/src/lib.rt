@@ -12,102 +12,98 @@ ghost use Rattle.loading.specs.Tables.{exact_at, linear_at, width_at, LimitsOf, 
 use array::Limits;
 use bounds::BoundTerms;
 use commands::CommandTerms;
-use image::{Input, Sizes};
+use image::{Image, Input};
 
 // The limits of the image's commands.
-pub fn limits_of(image: &[u8], z: Sizes) -> Limits
-    requires { Whole z image.now }
-    ensures { LimitsOf z image.now result }
+pub fn limits_of(image: &Image) -> Limits
+    ensures { LimitsOf image.now.sizes image.now.bytes.now result }
 {
     let mut lower = [0; 16];
     let mut upper = [0; 16];
-    for i in 0..z.command_count() {
-        lower[i] = image::lower_at(image, z, i);
-        upper[i] = image::upper_at(image, z, i);
+    for i in 0..image.sizes.command_count() {
+        lower[i] = image.lower_at(i);
+        upper[i] = image.upper_at(i);
     }
     Limits { lower, upper }
 }
 
 // Row i of an input's table times its values x, undivided.
-pub fn gain_sum(image: &[u8], x: &[i64; 16], z: Sizes, v: Input, i: usize) -> i64
-    requires { (Whole z image.now × (i < command_count z)) × (WordsTo (input_count v z) x.now × RunsTo (input_count v z) (input_term (gain_row v z image.now i) x.now)) }
-    ensures { result ≡ sum_z (input_term (gain_row v z image.now i) x.now) 0 (input_count v z) }
+pub fn gain_sum(image: &Image, x: &[i64; 16], v: Input, i: usize) -> i64
+    requires { (i < command_count image.now.sizes) × (WordsTo (input_count v image.now.sizes) x.now × RunsTo (input_count v image.now.sizes) (input_term (gain_row v image.now.sizes image.now.bytes.now i) x.now)) }
+    ensures { result ≡ sum_z (input_term (gain_row v image.now.sizes image.now.bytes.now i) x.now) 0 (input_count v image.now.sizes) }
 {
-    let row = &image[z.gain_offset(v, i)..];
-    dot::row_sum(row, x, z.input_count(v))
+    dot::row_sum(image.gain_row(v, i), x, image.sizes.input_count(v))
 }
 
 // The linear term of each command, undivided: one sum over state and target.
-pub fn exact_terms(image: &[u8], state: &[u8], target: &[u8], z: Sizes) -> [i64; 16]
-    requires { Loadable z image.now state.now target.now }
-    ensures { Filled (pos 0) (command_count z) (exact_at z image.now state.now target.now) result }
+pub fn exact_terms(image: &Image, state: &[u8], target: &[u8]) -> [i64; 16]
+    requires { Loadable image.now.sizes image.now.bytes.now state.now target.now }
+    ensures { Filled (pos 0) (command_count image.now.sizes) (exact_at image.now.sizes image.now.bytes.now state.now target.now) result }
 {
-    let x = array::words_of(state, z.nx);
-    let y = array::words_of(target, z.nr);
+    let x = array::words_of(state, image.sizes.nx);
+    let y = array::words_of(target, image.sizes.nr);
     let mut r = [0; 16];
-    for i in 0..z.command_count() {
-        r[i] = gain_sum(image, &x, z, Input::State, i) + gain_sum(image, &y, z, Input::Target, i);
+    for i in 0..image.sizes.command_count() {
+        r[i] = gain_sum(image, &x, Input::State, i) + gain_sum(image, &y, Input::Target, i);
     }
     r
 }
 
 // The same divided, once.
-fn linear_terms(image: &[u8], state: &[u8], target: &[u8], z: Sizes) -> [i64; 16]
-    requires { Loadable z image.now state.now target.now }
-    ensures { Filled (pos 0) (command_count z) (linear_at z image.now state.now target.now) result }
+fn linear_terms(image: &Image, state: &[u8], target: &[u8]) -> [i64; 16]
+    requires { Loadable image.now.sizes image.now.bytes.now state.now target.now }
+    ensures { Filled (pos 0) (command_count image.now.sizes) (linear_at image.now.sizes image.now.bytes.now state.now target.now) result }
 {
-    let g = exact_terms(image, state, target, z);
+    let g = exact_terms(image, state, target);
     let mut r = [0; 16];
-    for i in 0..z.command_count() {
-        r[i] = integer::floor_div(g[i], z.b);
+    for i in 0..image.sizes.command_count() {
+        r[i] = integer::floor_div(g[i], image.sizes.b);
     }
     r
 }
 
 // What the iterations of the commands take, with these linear terms.
-pub fn terms_with(image: &[u8], z: Sizes, linear: [i64; 16]) -> CommandTerms
-    requires { Whole z image.now × (length linear ≡ 16) }
-    ensures { TermsOf z image.now (λ i. get_or linear i (pos 0)) result }
+pub fn terms_with(image: &Image, linear: [i64; 16]) -> CommandTerms
+    requires { length linear ≡ 16 }
+    ensures { TermsOf image.now.sizes image.now.bytes.now (λ i. get_or linear i (pos 0)) result }
 {
     CommandTerms {
-        limits: limits_of(image, z),
+        limits: limits_of(image),
         linear,
-        momentum: magnitudes::momentum_size(image, z),
-        n: z.command_count(),
-        b: z.b,
+        momentum: magnitudes::momentum_size(image),
+        n: image.sizes.command_count(),
+        b: image.sizes.b,
     }
 }
 
 // What they take for a state and a target.
-pub fn command_terms(image: &[u8], state: &[u8], target: &[u8], z: Sizes) -> CommandTerms
-    requires { Loadable z image.now state.now target.now }
-    ensures { CommandTermsOf z image.now state.now target.now result }
+pub fn command_terms(image: &Image, state: &[u8], target: &[u8]) -> CommandTerms
+    requires { Loadable image.now.sizes image.now.bytes.now state.now target.now }
+    ensures { CommandTermsOf image.now.sizes image.now.bytes.now state.now target.now result }
 {
-    let linear = linear_terms(image, state, target, z);
-    terms_with(image, z, linear)
+    let linear = linear_terms(image, state, target);
+    terms_with(image, linear)
 }
 
 // w of each command.
-fn widths_of(image: &[u8], z: Sizes) -> [u64; 16]
-    requires { Whole z image.now }
-    ensures { Filled 0 (command_count z) (width_at z image.now) result }
+fn widths_of(image: &Image) -> [u64; 16]
+    ensures { Filled 0 (command_count image.now.sizes) (width_at image.now.sizes image.now.bytes.now) result }
 {
     let mut r = [0; 16];
-    for i in 0..z.command_count() {
-        r[i] = magnitudes::limit_width(image, z, i);
+    for i in 0..image.sizes.command_count() {
+        r[i] = magnitudes::limit_width(image, i);
     }
     r
 }
 
 // What the iterations of the error bounds take: it is the image's alone.
-pub fn bound_terms(image: &[u8], z: Sizes) -> BoundTerms
-    requires { Whole z image.now }
-    ensures { BoundTermsOf z image.now result }
+pub fn bound_terms(image: &Image) -> BoundTerms
+    ensures { BoundTermsOf image.now.sizes image.now.bytes.now result }
 {
     BoundTerms {
-        width: widths_of(image, z),
-        momentum: magnitudes::momentum_size(image, z),
-        n: z.command_count(),
-        b: z.b,
+        width: widths_of(image),
+        momentum: magnitudes::momentum_size(image),
+        n: image.sizes.command_count(),
+        b: image.sizes.b,
     }
 }

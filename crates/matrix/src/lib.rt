@@ -6,7 +6,7 @@ ghost use Rattle.image.specs.Sizes.{Whole, command_count};
 ghost use Rattle.image.specs.Layout.{entry_of, entry_at};
 ghost use Rattle.array.specs.Arrays.{Filled, Tabled, WordsTo, RowsTo};
 
-use image::Sizes;
+use image::Image;
 
 // Row i of M, from the part of the image that starts at that row of H.
 fn matrix_row(row: &[u8], i: usize, n: usize, b: u32) -> [i64; 16]
@@ -22,15 +22,13 @@ fn matrix_row(row: &[u8], i: usize, n: usize, b: u32) -> [i64; 16]
 
 // M: n rows of n words.
 #[inline(never)]
-pub fn matrix(image: &[u8], z: Sizes) -> [[i64; 16]; 16]
-    requires { Whole z image.now }
-    ensures { Tabled (pos 0) (command_count z) (entry_at z image.now) result }
+pub fn matrix(image: &Image) -> [[i64; 16]; 16]
+    ensures { Tabled (pos 0) (command_count image.now.sizes) (entry_at image.now.sizes image.now.bytes.now) result }
 {
-    let n = z.command_count();
+    let n = image.sizes.command_count();
     let mut m = [[0; 16]; 16];
     for i in 0..n {
-        let row = &image[z.cost_offset(i)..];
-        m[i] = matrix_row(row, i, n, z.b);
+        m[i] = matrix_row(image.cost_row(i), i, n, image.sizes.b);
     }
     m
 }

@@ -30,9 +30,9 @@ module _ (l : In-loop-i) where
   abbrev ys : After-words_of-y
   ys = (goal.at.In-loop-i l).After-words_of-y
 
-  linear : LinearOf a.args.z a.args.image.now a.args.state.now a.args.target.now i xs.words_of-x.result ys.words_of-y.result
+  linear : LinearOf a.args.image.now.sizes a.args.image.now.bytes.now a.args.state.now a.args.target.now i xs.words_of-x.result ys.words_of-y.result
   linear =
-      linear_of a.args.z a.args.image.now a.args.state.now a.args.target.now i xs.words_of-x.result ys.words_of-y.result xs.words_of-x.ensures.0 ys.words_of-y.ensures.0
+      linear_of a.args.image.now.sizes a.args.image.now.bytes.now a.args.state.now a.args.target.now i xs.words_of-x.result ys.words_of-y.result xs.words_of-x.ensures.0 ys.words_of-y.ensures.0
       (a.requires.sums i (omega arith))
 
 -- a turn's two sums, and that they are one
@@ -48,8 +48,8 @@ module _ (c : After-gain_sum-in-loop-i) where
 
   abbrev whole : ℤ
   whole =
-      sum_z (input_term (gain_row State (a l).args.z (a l).args.image.now (i l)) (xs l).words_of-x.result) 0 (a l).args.z.nx
-      +ℤ sum_z (input_term (gain_row Target (a l).args.z (a l).args.image.now (i l)) (ys l).words_of-y.result) 0 (a l).args.z.nr
+      sum_z (input_term (gain_row State (a l).args.image.now.sizes (a l).args.image.now.bytes.now (i l)) (xs l).words_of-x.result) 0 (a l).args.image.now.sizes.nx
+      +ℤ sum_z (input_term (gain_row Target (a l).args.image.now.sizes (a l).args.image.now.bytes.now (i l)) (ys l).words_of-y.result) 0 (a l).args.image.now.sizes.nr
 
   one : x +ℤ y ≡ whole
   one = cc (c.gain_sum.ensures, c.gain_sum-in-loop-i.ensures)
@@ -58,10 +58,10 @@ module _ (c : After-gain_sum-in-loop-i) where
   fits = fit_abs (x +ℤ y) (rw one (linear l).within)
 
 pub gain_sum-requires : goal.gain_sum-requires
-gain_sum-requires c = let l = c in (((a (goal.at.gain_sum-requires c).In-loop-i).requires.whole, omega arith), ((xs (goal.at.gain_sum-requires c).In-loop-i).words_of-x.ensures.1, (linear (goal.at.gain_sum-requires c).In-loop-i).state_runs))
+gain_sum-requires c = let l = c in (omega arith, ((xs (goal.at.gain_sum-requires c).In-loop-i).words_of-x.ensures.1, (linear (goal.at.gain_sum-requires c).In-loop-i).state_runs))
 
 pub gain_sum-requires-in-loop-i : goal.gain_sum-requires-in-loop-i
-gain_sum-requires-in-loop-i c = let l = c in (((a (goal.at.gain_sum-requires-in-loop-i c).In-loop-i).requires.whole, omega arith), ((ys (goal.at.gain_sum-requires-in-loop-i c).In-loop-i).words_of-y.ensures.1, (linear (goal.at.gain_sum-requires-in-loop-i c).In-loop-i).target_runs))
+gain_sum-requires-in-loop-i c = let l = c in (omega arith, ((ys (goal.at.gain_sum-requires-in-loop-i c).In-loop-i).words_of-y.ensures.1, (linear (goal.at.gain_sum-requires-in-loop-i c).In-loop-i).target_runs))
 
 pub overflow_add-r : goal.overflow_add-r
 overflow_add-r c = rw (back (x c) c.gain_sum.type_inv, back (y c) c.gain_sum-in-loop-i.type_inv) (fits c)
@@ -69,5 +69,5 @@ overflow_add-r c = rw (back (x c) c.gain_sum.type_inv, back (y c) c.gain_sum-in-
 pub loop-i-preserved : goal.loop-i-preserved
 loop-i-preserved c =
     let s = (a (l c)).args in
-    filled_more (pos 0) (exact_at s.z s.image.now s.state.now s.target.now) _ (omega (arith, (a (l c)).requires.whole.sizes.n_high)) c.loop-i.invariant
+    filled_more (pos 0) (exact_at s.image.now.sizes s.image.now.bytes.now s.state.now s.target.now) _ (omega (arith, (a (l c)).requires.whole.sizes.n_high)) c.loop-i.invariant
     (rw (back (x c) c.gain_sum.type_inv, back (y c) c.gain_sum-in-loop-i.type_inv, to_z-of_z (fits c)) (one c ∙ (linear (l c)).undivided))

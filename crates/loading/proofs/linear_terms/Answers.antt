@@ -12,6 +12,6 @@ loop-i-preserved c =
     let i = c.loop-i.i in
     let q = c.floor_div in
     let x = get_or c.exact_terms-g.result i (pos 0) in
-    let made = (rw (back x c.floor_div-arg-1.given) at q.ensures) ∙ ap (λ (h : ℤ). floor h (2 ^ s.z.b)) (c.exact_terms-g.ensures.each i (omega (arith, c.loop-i-test.true))) in
-    filled_more (pos 0) (linear_at s.z s.image.now s.state.now s.target.now) _ (omega (arith, c.requires.whole.sizes.n_high)) c.loop-i.invariant
-    (back q.result q.type_inv ∙ made ∙ linear_divided s.z s.image.now s.state.now s.target.now i)
+    let made = (rw (back x c.floor_div-arg-1.given) at q.ensures) ∙ ap (λ (h : ℤ). floor h (2 ^ s.image.now.sizes.b)) (c.exact_terms-g.ensures.each i (omega (arith, c.loop-i-test.true))) in
+    filled_more (pos 0) (linear_at s.image.now.sizes s.image.now.bytes.now s.state.now s.target.now) _ (omega (arith, c.requires.whole.sizes.n_high)) c.loop-i.invariant
+    (back q.result q.type_inv ∙ made ∙ linear_divided s.image.now.sizes s.image.now.bytes.now s.state.now s.target.now i)

@@ -4,4 +4,4 @@ use Rattle.loading.specs.Tables.{linear_at}
 use Rattle.loading.proofs.linear_terms.Given as goal
 
 abbrev pub invariant-loop-i : goal.invariant-loop-i
-invariant-loop-i l = Filled (pos 0) l.i (linear_at l.z l.image l.state l.target) l.r
+invariant-loop-i l = Filled (pos 0) l.i (linear_at l.image.sizes l.image.bytes.now l.state l.target) l.r

@@ -3,4 +3,4 @@ use Rattle.loading.specs.Tables.{width_at}
 use Rattle.loading.proofs.widths_of.Given as goal
 
 abbrev pub invariant-loop-i : goal.invariant-loop-i
-invariant-loop-i l = Filled 0 l.i (width_at l.z l.image) l.r
+invariant-loop-i l = Filled 0 l.i (width_at l.image.sizes l.image.bytes.now) l.r
