@@ -11,28 +11,28 @@ ghost use Rattle.loading.specs.Tables.{Loadable};
 ghost use Rattle.optimum.specs.Optimum.{optimum_bound};
 ghost use Rattle.distance.specs.Tables.{ResidualTermsOf, Measurable};
 
-use image::Sizes;
+use image::Image;
 use residual::ResidualTerms;
 
 // What R takes, but for M and the commands.
-fn residual_terms(image: &[u8], state: &[u8], target: &[u8], z: Sizes) -> ResidualTerms
-    requires { Loadable z image.now state.now target.now }
-    ensures { ResidualTermsOf z image.now state.now target.now result }
+fn residual_terms(image: &Image, state: &[u8], target: &[u8]) -> ResidualTerms
+    requires { Loadable image.now.sizes image.now.bytes.now state.now target.now }
+    ensures { ResidualTermsOf image.now.sizes image.now.bytes.now state.now target.now result }
 {
     ResidualTerms {
-        limits: loading::limits_of(image, z),
-        linear: loading::exact_terms(image, state, target, z),
-        n: z.command_count(),
-        b: z.b,
+        limits: loading::limits_of(image),
+        linear: loading::exact_terms(image, state, target),
+        n: image.sizes.command_count(),
+        b: image.sizes.b,
     }
 }
 
 // m: the least margin of check 9, a count above 0 once that has passed.
-fn margin(image: &[u8], z: Sizes) -> u64
-    requires { Whole z image.now × (pos 1 ≤ℤ least_margin z image.now) }
-    ensures { (result ≡ nat_abs (least_margin z image.now)) × (result < 2 ^ 63) }
+fn margin(image: &Image) -> u64
+    requires { pos 1 ≤ℤ least_margin image.now.sizes image.now.bytes.now }
+    ensures { (result ≡ nat_abs (least_margin image.now.sizes image.now.bytes.now)) × (result < 2 ^ 63) }
 {
-    let x = momentum::extremes_of(image, z);
+    let x = momentum::extremes_of(image);
     x.margin as u64
 }
 
@@ -47,8 +47,8 @@ pub fn distance(
     requires { Measurable image.now state.now target.now m.now z.now × Dominant image.now }
     ensures { result ≡ optimum_bound (problem_of image.now) (margin_of image.now) (inputs_of (sizes_of image.now) state.now target.now) (take (command_count (sizes_of image.now)) z.now) }
 {
-    let s = image::sizes_of(image);
-    let t = residual_terms(image, state, target, s);
+    let whole = Image::of(image);
+    let t = residual_terms(&whole, state, target);
     let r = residual::residual(m, t, z);
-    integer::ceil_by(r, margin(image, s))
+    integer::ceil_by(r, margin(&whole))
 }

@@ -10,7 +10,6 @@ use Rattle.integer.specs.Round.{floor}
 use Rattle.integer.proofs.Machine.{back, fit_abs, sfits_add}
 use Rattle.gradient.specs.Index.{sum_z}
 use Rattle.image.specs.declared.Input.TheVariants.{Target}
-use Rattle.image.specs.Sizes.{command_count}
 use Rattle.image.specs.Layout.{gain_row}
 use Rattle.array.proofs.Filling.{filled_more}
 use Rattle.dot.specs.Sums.{input_term}
@@ -38,30 +37,30 @@ module _ (l : In-loop-i) where
   abbrev toward : List ℤ
   toward = l.words_of-goal.result
 
-  lows-held : LowsHeld a.args.z a.args.ranges.now lows
+  lows-held : LowsHeld a.args.image.now.sizes a.args.ranges.now lows
   lows-held = l.words_of-lows.ensures.0
 
-  highs-held : HighsHeld a.args.z a.args.ranges.now highs
-  highs-held = behind_lows a.args.z a.args.ranges.now _ refl l.words_of-highs.ensures.0
+  highs-held : HighsHeld a.args.image.now.sizes a.args.ranges.now highs
+  highs-held = behind_lows a.args.image.now.sizes a.args.ranges.now _ refl l.words_of-highs.ensures.0
 
-  values : Ranged lows highs a.args.z.nx
-  values = held_ranged a.args.z a.args.ranges.now lows-held highs-held a.requires.values
+  values : Ranged lows highs a.args.image.now.sizes.nx
+  values = held_ranged a.args.image.now.sizes a.args.ranges.now lows-held highs-held a.requires.values
 
   -- an end's sum of the row, with the target's behind it
   abbrev sum : end.End → ℤ
-  sum e = sum_z (gain_term e a.args.z a.args.image.now lows highs i) 0 a.args.z.nx
+  sum e = sum_z (gain_term e a.args.image.now.sizes a.args.image.now.bytes.now lows highs i) 0 a.args.image.now.sizes.nx
 
   abbrev whole : end.End → ℤ
-  whole e = sum e +ℤ sum_z (input_term (gain_row Target a.args.z a.args.image.now i) toward) 0 a.args.z.nr
+  whole e = sum e +ℤ sum_z (input_term (gain_row Target a.args.image.now.sizes a.args.image.now.bytes.now i) toward) 0 a.args.image.now.sizes.nr
 
-  sum-small : (e : end.End) (b k : ℕ) → b + k ≤ a.args.z.nx → nat_abs (sum_z (gain_term e a.args.z a.args.image.now lows highs i) b k) < 2 ^ 51
-  sum-small e = state_small e a.args.z a.args.image.now a.args.ranges.now a.args.target.now i lows highs toward lows-held highs-held l.words_of-goal.ensures.0 (a.requires.sums i (omega arith) e)
+  sum-small : (e : end.End) (b k : ℕ) → b + k ≤ a.args.image.now.sizes.nx → nat_abs (sum_z (gain_term e a.args.image.now.sizes a.args.image.now.bytes.now lows highs i) b k) < 2 ^ 51
+  sum-small e = state_small e a.args.image.now.sizes a.args.image.now.bytes.now a.args.ranges.now a.args.target.now i lows highs toward lows-held highs-held l.words_of-goal.ensures.0 (a.requires.sums i (omega arith) e)
 
   fits : (e : end.End) → SFits w64 (whole e)
-  fits e = fit_abs (whole e) (omega (arith, whole_small e a.args.z a.args.image.now a.args.ranges.now a.args.target.now i lows highs toward lows-held highs-held l.words_of-goal.ensures.0 (a.requires.sums i (omega arith) e)))
+  fits e = fit_abs (whole e) (omega (arith, whole_small e a.args.image.now.sizes a.args.image.now.bytes.now a.args.ranges.now a.args.target.now i lows highs toward lows-held highs-held l.words_of-goal.ensures.0 (a.requires.sums i (omega arith) e)))
 
-  divided : (e : end.End) → floor (whole e) (2 ^ a.args.z.b) ≡ linear_end e a.args.z a.args.image.now a.args.ranges.now a.args.target.now i
-  divided e = linear_is e a.args.z a.args.image.now a.args.ranges.now a.args.target.now i lows highs toward lows-held highs-held l.words_of-goal.ensures.0 (a.requires.sums i (omega arith) e)
+  divided : (e : end.End) → floor (whole e) (2 ^ a.args.image.now.sizes.b) ≡ linear_end e a.args.image.now.sizes a.args.image.now.bytes.now a.args.ranges.now a.args.target.now i
+  divided e = linear_is e a.args.image.now.sizes a.args.image.now.bytes.now a.args.ranges.now a.args.target.now i lows highs toward lows-held highs-held l.words_of-goal.ensures.0 (a.requires.sums i (omega arith) e)
 
 -- a turn's sums, as they are read back
 pair : {x s u v : ℤ} → x ≡ s → nat_abs s < 2 ^ 63 → u ≡ v → to_z w64 (of_z w64 x) +ℤ u ≡ s +ℤ v
@@ -75,7 +74,7 @@ module _ (c : After-gain_sum-g) where
   l = (goal.at.After-gain_sum-g c).In-loop-i
 
   read : {x : ℤ} (e : end.End) → x ≡ sum l e → to_z w64 (of_z w64 x) +ℤ to_z w64 (of_z w64 c.gain_sum-g.result) ≡ whole l e
-  read e q = pair q (omega (arith, sum-small l e 0 (a l).args.z.nx (omega arith))) (back c.gain_sum-g.result c.gain_sum-g.type_inv ∙ c.gain_sum-g.ensures)
+  read e q = pair q (omega (arith, sum-small l e 0 (a l).args.image.now.sizes.nx (omega arith))) (back c.gain_sum-g.result c.gain_sum-g.type_inv ∙ c.gain_sum-g.ensures)
 
   low_read : to_z w64 (of_z w64 c.gain_ends-x.result.low) +ℤ to_z w64 (of_z w64 c.gain_sum-g.result) ≡ whole l end.low
   low_read = read end.low c.gain_ends-x.ensures.low_sum
@@ -86,25 +85,25 @@ module _ (c : After-gain_sum-g) where
   -- the two parts of a sum are small
   ends-small : {x : ℤ} (e : end.End) → x ≡ sum l e → nat_abs (to_z w64 (of_z w64 x)) ≤ 2 ^ 51
   ends-small {x} e q =
-      let h = sum-small l e 0 (a l).args.z.nx (omega arith) in
+      let h = sum-small l e 0 (a l).args.image.now.sizes.nx (omega arith) in
       rw (q, to_z-of_z (fit_abs (sum l e) (omega (arith, h)))) (omega (arith, h))
 
   goal-small : nat_abs (to_z w64 (of_z w64 c.gain_sum-g.result)) ≤ 2 ^ 51
   goal-small =
       let s = a l in
-      let h = target_small end.low s.args.z s.args.image.now s.args.ranges.now s.args.target.now (i l) (lows l) (highs l) (toward l) (lows-held l) (highs-held l) l.words_of-goal.ensures.0 (s.requires.sums (i l) (omega arith) end.low) 0 s.args.z.nr (omega arith) in
+      let h = target_small end.low s.args.image.now.sizes s.args.image.now.bytes.now s.args.ranges.now s.args.target.now (i l) (lows l) (highs l) (toward l) (lows-held l) (highs-held l) l.words_of-goal.ensures.0 (s.requires.sums (i l) (omega arith) end.low) 0 s.args.image.now.sizes.nr (omega arith) in
       rw (back c.gain_sum-g.result c.gain_sum-g.type_inv, c.gain_sum-g.ensures) (omega (arith, h))
 
 pub gain_ends-x-requires : goal.gain_ends-x-requires
 gain_ends-x-requires c =
     let l = c in
-    record { whole = (a (goal.at.gain_ends-x-requires c).In-loop-i).requires.whole; below = (omega arith); values = values (goal.at.gain_ends-x-requires c).In-loop-i; sums = sum-small (goal.at.gain_ends-x-requires c).In-loop-i }
+    record { whole = (a (goal.at.gain_ends-x-requires c).In-loop-i).requires.whole; below = omega arith; values = values (goal.at.gain_ends-x-requires c).In-loop-i; sums = sum-small (goal.at.gain_ends-x-requires c).In-loop-i }
 
 pub gain_sum-g-requires : goal.gain_sum-g-requires
 gain_sum-g-requires c =
     let l = c in
     let s = a (goal.at.gain_sum-g-requires c).In-loop-i in
-    ((s.requires.whole, (omega arith)), (l.words_of-goal.ensures.1, λ b k h. omega (arith, target_small end.low s.args.z s.args.image.now s.args.ranges.now s.args.target.now (i (goal.at.gain_sum-g-requires c).In-loop-i) (lows (goal.at.gain_sum-g-requires c).In-loop-i) (highs (goal.at.gain_sum-g-requires c).In-loop-i) (toward (goal.at.gain_sum-g-requires c).In-loop-i) (lows-held (goal.at.gain_sum-g-requires c).In-loop-i) (highs-held (goal.at.gain_sum-g-requires c).In-loop-i) l.words_of-goal.ensures.0 (s.requires.sums (i (goal.at.gain_sum-g-requires c).In-loop-i) (omega arith) end.low) b k h)))
+    (omega arith, (l.words_of-goal.ensures.1, λ b k h. omega (arith, target_small end.low s.args.image.now.sizes s.args.image.now.bytes.now s.args.ranges.now s.args.target.now (i (goal.at.gain_sum-g-requires c).In-loop-i) (lows (goal.at.gain_sum-g-requires c).In-loop-i) (highs (goal.at.gain_sum-g-requires c).In-loop-i) (toward (goal.at.gain_sum-g-requires c).In-loop-i) (lows-held (goal.at.gain_sum-g-requires c).In-loop-i) (highs-held (goal.at.gain_sum-g-requires c).In-loop-i) l.words_of-goal.ensures.0 (s.requires.sums (i (goal.at.gain_sum-g-requires c).In-loop-i) (omega arith) end.low) b k h)))
 
 pub overflow_add-x : goal.overflow_add-x
 overflow_add-x c =
@@ -121,9 +120,9 @@ loop-i-preserved c =
     let q = c in
     let d = c in
     let g = (a (l (goal.at.loop-i-preserved c).After-gain_sum-g)).args in
-    let few = (a (l (goal.at.loop-i-preserved c).After-gain_sum-g)).requires.whole.sizes.n_high in
-      filled_more (pos 0) (linear_end end.low g.z g.image.now g.ranges.now g.target.now) _ (omega (arith, few)) c.loop-i.invariant.0
+    let few = (a (l (goal.at.loop-i-preserved c).After-gain_sum-g)).requires.whole.sizes.n_high in (
+      filled_more (pos 0) (linear_end end.low g.image.now.sizes g.image.now.bytes.now g.ranges.now g.target.now) _ (omega (arith, few)) c.loop-i.invariant.0
           (back q.floor_div.result q.floor_div.type_inv ∙ (rw (low_read (goal.at.loop-i-preserved c).After-gain_sum-g, to_z-of_z (fits (l (goal.at.loop-i-preserved c).After-gain_sum-g) end.low)) at q.floor_div.ensures) ∙ divided (l (goal.at.loop-i-preserved c).After-gain_sum-g) end.low),
-      filled_more (pos 0) (linear_end end.high g.z g.image.now g.ranges.now g.target.now) _ (omega (arith, few)) c.loop-i.invariant.1
+      filled_more (pos 0) (linear_end end.high g.image.now.sizes g.image.now.bytes.now g.ranges.now g.target.now) _ (omega (arith, few)) c.loop-i.invariant.1
           (back c.floor_div-in-loop-i.result c.floor_div-in-loop-i.type_inv ∙ (rw (high_read (goal.at.loop-i-preserved c).After-gain_sum-g, to_z-of_z (fits (l (goal.at.loop-i-preserved c).After-gain_sum-g) end.high)) at c.floor_div-in-loop-i.ensures) ∙ divided (l (goal.at.loop-i-preserved c).After-gain_sum-g) end.high),
     )

@@ -5,4 +5,4 @@ use Rattle.range_loading.specs.Tables.{linear_end}
 use Rattle.range_loading.proofs.linear_ends.Given as goal
 
 abbrev pub invariant-loop-i : goal.invariant-loop-i
-invariant-loop-i l = Filled (pos 0) l.i (linear_end end.low l.z l.image l.ranges l.target) l.low × Filled (pos 0) l.i (linear_end end.high l.z l.image l.ranges l.target) l.high
+invariant-loop-i l = Filled (pos 0) l.i (linear_end end.low l.image.sizes l.image.bytes.now l.ranges l.target) l.low × Filled (pos 0) l.i (linear_end end.high l.image.sizes l.image.bytes.now l.ranges l.target) l.high
