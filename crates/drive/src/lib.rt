@@ -49,7 +49,7 @@ pub fn start_place(k: usize) -> usize
     requires { k < most_heads }
     ensures { result ≡ start_place k }
 {
-    HEADS_PLACE + HEAD_ROOM * k + START_OFFSET
+    waiting_place(k) + START_OFFSET
 }
 
 // Where the answer of head k stands.
@@ -57,7 +57,7 @@ pub fn answer_place(k: usize) -> usize
     requires { k < most_heads }
     ensures { result ≡ answer_place k }
 {
-    HEADS_PLACE + HEAD_ROOM * k + ANSWER_OFFSET
+    waiting_place(k) + ANSWER_OFFSET
 }
 
 // Where it is said what head k has left of its own share.

@@ -4,6 +4,7 @@
 ghost use Rattle.std.specs.Prelude.{◌≡◌, ◌^◌, ◌<◌, length};
 ghost use Rattle.refusal.specs.Number.{number_of};
 ghost use Rattle.image.specs.Layout.{sizes_of};
+ghost use Rattle.image.specs.Order.{buffer_number};
 ghost use Rattle.interface.specs.Calls.{answer_length};
 ghost use Rattle.device.specs.Device.{most_heads};
 ghost use Rattle.device.specs.Call.{count_number};
@@ -75,17 +76,26 @@ pub fn check_count(heads: u64) -> Result<(), Refusal>
     }
 }
 
+// Check 15 of a drive's length.
+pub fn check_length(room: usize) -> Result<(), Refusal>
+    ensures { number_of result ≡ buffer_number drive_length room }
+{
+    if room == DRIVE_LENGTH {
+        Ok(())
+    } else {
+        Err(Refusal::Buffer)
+    }
+}
+
 // Check 3 for a head that no drive has, 15 for the drive's length, 3 for a head that this drive has not.
-#[tactic(auto, unfolding(drive::specs::Calls::place_number))]
+#[tactic(auto, using(image::proofs::Ordering::buffer_length, image::proofs::Ordering::handed_on, image::proofs::Ordering::went_on), unfolding(drive::specs::Calls::place_number))]
 pub fn check_place(drive: &[u8], k: usize) -> Result<(), Refusal>
     ensures { number_of result ≡ place_number drive.now k }
 {
     if MOST_HEADS <= k {
         return Err(Refusal::Size);
     }
-    if drive.len() != DRIVE_LENGTH {
-        return Err(Refusal::Buffer);
-    }
+    check_length(drive.len())?;
     if held_count(drive) <= k as u64 {
         return Err(Refusal::Size);
     }

@@ -8,19 +8,17 @@ ghost use Rattle.drive.specs.Layout.{drive_length};
 ghost use Rattle.drive.specs.Calls.{place_number, period_number, put_owns, period_drive, done_drive};
 ghost use Rattle.drive.specs.Parts.{Counted};
 
-use drive::{COMMON_PLACE, DRIVE_LENGTH};
-use drive_parts::{held_common, held_count, held_own};
+use drive::COMMON_PLACE;
+use drive_parts::{check_count, check_length, check_place, held_common, held_count, held_own};
 use refusal::Refusal;
 
 // Check 15 of the drive's length, 3 for a number of heads that no made drive has.
-#[tactic(auto, unfolding(drive::specs::Calls::period_number))]
+#[tactic(auto, using(image::proofs::Ordering::buffer_length, image::proofs::Ordering::handed_on, image::proofs::Ordering::went_on), unfolding(drive::specs::Calls::period_number))]
 fn check_period(drive: &[u8]) -> Result<(), Refusal>
     ensures { number_of result ≡ period_number drive.now }
 {
-    if drive.len() != DRIVE_LENGTH {
-        return Err(Refusal::Buffer);
-    }
-    drive_parts::check_count(held_count(drive))
+    check_length(drive.len())?;
+    check_count(held_count(drive))
 }
 
 // The shares of the first heads are written.
@@ -73,7 +71,7 @@ pub fn done(drive: &mut [u8], head: u32) -> Result<(), Refusal>
     ensures drive { drive.new ≡ cond (eqb (number_of result) 0) (done_drive drive.old head) drive.old }
 {
     let k = head as usize;
-    drive_parts::check_place(drive, k)?;
+    check_place(drive, k)?;
     release(drive, k);
     Ok(())
 }
