@@ -11,7 +11,7 @@ ghost use Rattle.drive.specs.Move.{first_length};
 ghost use Rattle.drive.specs.Calls.{commit_number, commit_answer, commit_drive};
 ghost use Rattle.drive.specs.Parts.{Found};
 
-use drive_parts::{held_answer, held_image, held_sizes};
+use drive_parts::{held_answer, held_image};
 use refusal::Refusal;
 
 // The head and the drive's length, the held image's length and sizes, 15 for the commands' length, 18.
@@ -19,8 +19,8 @@ use refusal::Refusal;
 fn check_commit(drive: &[u8], k: usize, room: usize) -> Result<(), Refusal>
     ensures { number_of result ≡ commit_number drive.now k room }
 {
-    drive_parts::check_parts(drive, k)?;
-    if room != 4 * held_sizes(drive).nu {
+    let image = drive_parts::check_parts(drive, k)?;
+    if room != 4 * image.sizes.nu {
         return Err(Refusal::Buffer);
     }
     if drive_parts::is_idle(drive, k) {
@@ -57,9 +57,10 @@ fn move_on(drive: &mut [u8], k: usize)
     requires { Found drive.old × (k < most_heads) }
     ensures { drive.new ≡ commit_drive drive.old k }
 {
-    let z = held_sizes(drive);
-    let next = next_start::next_start(held_image(drive), z, held_answer(drive, k));
-    put_start(drive, k, &next[..z.command_count()]);
+    let image = held_image(drive);
+    let next = next_start::next_start(&image, held_answer(drive, k));
+    let n = image.sizes.command_count();
+    put_start(drive, k, &next[..n]);
     word::put_nat(drive, drive::waiting_place(k), 0);
 }
 

@@ -1,7 +1,7 @@
 // The parts of a drive in the buffer that the caller lends, and the checks of that buffer.
 #![tactic(auto)]
 
-ghost use Rattle.std.specs.Prelude.{◌≡◌, ◌^◌, ◌<◌, length};
+ghost use Rattle.std.specs.Prelude.{◌≡◌, ◌^◌, ◌<◌, IfOk, length};
 ghost use Rattle.refusal.specs.Number.{number_of};
 ghost use Rattle.image.specs.Layout.{sizes_of};
 ghost use Rattle.image.specs.Order.{buffer_number};
@@ -15,7 +15,7 @@ ghost use Rattle.drive.specs.Parts.{Found};
 use drive::{
     COMMON_PLACE, COUNT_PLACE, DRIVE_LENGTH, IMAGE_PLACE, IMAGE_ROOM, LENGTH_PLACE, MOST_HEADS,
 };
-use image::Sizes;
+use image::Image;
 use refusal::Refusal;
 
 // How many heads the drive says that it has.
@@ -54,9 +54,9 @@ pub fn is_idle(drive: &[u8], k: usize) -> bool
     word::nat_at(drive, drive::waiting_place(k)) == 0
 }
 
-// The held image.
+// The bytes of the held image.
 #[tactic(auto, using(drive::proofs::Parts::image_part))]
-pub fn held_image(drive: &[u8]) -> &[u8]
+pub fn held_bytes(drive: &[u8]) -> &[u8]
     requires { length drive.now ≡ drive_length }
     ensures { result.now ≡ held_image drive.now }
 {
@@ -102,21 +102,22 @@ pub fn check_place(drive: &[u8], k: usize) -> Result<(), Refusal>
     Ok(())
 }
 
-// The head and the drive's length, then the held image's length and sizes.
+// The head and the drive's length, then the held image's length and sizes: the held image.
 #[tactic(auto, using(drive::proofs::Accept::placed, image::proofs::Ordering::handed_on, image::proofs::Ordering::went_on), unfolding(drive::specs::Calls::parts_number))]
-pub fn check_parts(drive: &[u8], k: usize) -> Result<(), Refusal>
-    ensures { number_of result ≡ parts_number drive.now k }
+pub fn check_parts(drive: &[u8], k: usize) -> Result<Image<'_>, Refusal>
+    ensures number { number_of result ≡ parts_number drive.now k }
+    ensures image { IfOk result (λ i. (i.bytes.now ≡ held_image drive.now) × (i.sizes ≡ sizes_of (held_image drive.now))) }
 {
     check_place(drive, k)?;
-    integrity::check_head(held_image(drive))
+    integrity::check_head(held_bytes(drive))
 }
 
-// The sizes of the held image.
-pub fn held_sizes(drive: &[u8]) -> Sizes
+// The held image.
+pub fn held_image(drive: &[u8]) -> Image<'_>
     requires { Found drive.now }
-    ensures { result ≡ sizes_of (held_image drive.now) }
+    ensures { (result.bytes.now ≡ held_image drive.now) × (result.sizes ≡ sizes_of (held_image drive.now)) }
 {
-    image::sizes_of(held_image(drive))
+    Image::of(held_bytes(drive))
 }
 
 // The start of head k.
@@ -126,7 +127,7 @@ pub fn held_start(drive: &[u8], k: usize) -> &[u8]
     ensures { result.now ≡ held_start drive.now k }
 {
     let place = drive::start_place(k);
-    let end = place + 4 * held_sizes(drive).command_count();
+    let end = place + 4 * held_image(drive).sizes.command_count();
     &drive[place..end]
 }
 
@@ -138,6 +139,6 @@ pub fn held_answer(drive: &[u8], k: usize) -> &[u8]
     ensures size { length result.now ≡ answer_length (sizes_of (held_image drive.now)) }
 {
     let place = drive::answer_place(k);
-    let end = place + (8 * held_sizes(drive).command_count() + 8);
+    let end = place + (8 * held_image(drive).sizes.command_count() + 8);
     &drive[place..end]
 }

@@ -8,7 +8,7 @@ ghost use Rattle.drive.specs.Calls.{put_shares, charged};
 ghost use Rattle.drive.specs.Parts.{Found};
 
 use drive::COMMON_PLACE;
-use drive_parts::{held_common, held_own, held_sizes};
+use drive_parts::{held_common, held_image, held_own};
 
 // The common part and the share of head k are written.
 #[tactic(auto, unfolding(drive::specs::Calls::put_shares))]
@@ -25,7 +25,7 @@ pub fn affords(drive: &[u8], k: usize) -> bool
     requires { Found drive.now × (k < most_heads) }
     ensures { result ≡ leb (held_sweeps drive.now) (held_own drive.now k + held_common drive.now) }
 {
-    held_sizes(drive).sweeps as u64 <= held_own(drive, k) + held_common(drive)
+    held_image(drive).sizes.sweeps as u64 <= held_own(drive, k) + held_common(drive)
 }
 
 // The sweeps of an ask are taken, from the share of head k first.
@@ -34,7 +34,7 @@ pub fn charge(drive: &mut [u8], k: usize)
     requires { Found drive.old × (k < most_heads) }
     ensures { drive.new ≡ charged drive.old k }
 {
-    let cost = held_sizes(drive).sweeps as u64;
+    let cost = held_image(drive).sizes.sweeps as u64;
     let own = held_own(drive, k);
     let common = held_common(drive);
     let rest = cost.saturating_sub(own);

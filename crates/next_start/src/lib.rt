@@ -2,11 +2,11 @@
 #![tactic(auto)]
 
 ghost use Rattle.std.specs.Prelude.{◌≡◌, ◌*◌, ◌<◌, ◌≤◌, length};
-ghost use Rattle.image.specs.Sizes.{Sound, Whole, command_count};
+ghost use Rattle.image.specs.Sizes.{Sound, command_count};
 ghost use Rattle.drive.specs.Move.{moved_from};
 ghost use Rattle.drive.specs.Parts.{MovedWord, Moved};
 
-use image::Sizes;
+use image::{Image, Sizes};
 
 // The command that becomes command k.
 fn moved_from(z: Sizes, k: usize) -> usize
@@ -18,24 +18,24 @@ fn moved_from(z: Sizes, k: usize) -> usize
 }
 
 // Command k of the next start.
-fn moved_at(image: &[u8], z: Sizes, answer: &[u8], k: usize) -> i64
-    requires { Whole z image.now × (4 * command_count z ≤ length answer.now) × (k < command_count z) }
-    ensures { MovedWord z image.now answer.now k result }
+fn moved_at(image: &Image, answer: &[u8], k: usize) -> i64
+    requires { (4 * command_count image.now.sizes ≤ length answer.now) × (k < command_count image.now.sizes) }
+    ensures { MovedWord image.now.sizes image.now.bytes.now answer.now k result }
 {
-    let from = moved_from(z, k);
-    let low = image::lower_at(image, z, k);
-    let high = image::upper_at(image, z, k);
+    let from = moved_from(image.sizes, k);
+    let low = image.lower_at(k);
+    let high = image.upper_at(k);
     integer::clamp(low, high, word::word_at(answer, 4 * from))
 }
 
 // The next start.
-pub fn next_start(image: &[u8], z: Sizes, answer: &[u8]) -> [i64; 16]
-    requires { Whole z image.now × (4 * command_count z ≤ length answer.now) }
-    ensures { Moved z image.now answer.now result }
+pub fn next_start(image: &Image, answer: &[u8]) -> [i64; 16]
+    requires { 4 * command_count image.now.sizes ≤ length answer.now }
+    ensures { Moved image.now.sizes image.now.bytes.now answer.now result }
 {
     let mut next = [0; 16];
-    for k in 0..z.command_count() {
-        next[k] = moved_at(image, z, answer, k);
+    for k in 0..image.sizes.command_count() {
+        next[k] = moved_at(image, answer, k);
     }
     next
 }

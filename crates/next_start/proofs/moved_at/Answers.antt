@@ -17,8 +17,8 @@ returns c =
     let high = c.upper_at-high in
     let w = c.word_at in
     let e : c.clamp.result ≡ clamp low.result high.result w.result = rw (back low.result low.type_inv, back high.result high.type_inv, back w.result w.type_inv) at c.clamp.ensures in
-    let l : low.result ≡ lower_at a.z a.image.now a.k = low.ensures.0 in
-    let u : high.result ≡ upper_at a.z a.image.now a.k = high.ensures.0 in
+    let l : low.result ≡ lower_at a.image.now.sizes a.image.now.bytes.now a.k = low.ensures.0 in
+    let u : high.result ≡ upper_at a.image.now.sizes a.image.now.bytes.now a.k = high.ensures.0 in
     rw (back c.clamp.result c.clamp.type_inv) (
       e ∙ (rw (l, u, w.ensures.0, from.ensures.0)),
       subst (SFits w32) (sym e) (clamp_fits low.result high.result w.result low.ensures.1 high.ensures.1 w.ensures.1),

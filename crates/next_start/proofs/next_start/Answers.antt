@@ -12,7 +12,7 @@ loop-k-preserved c =
     let b : l.k < length l.next = omega arith in
     rw (back m.result m.type_inv) (record {
       sized = length-set l.next l.k m.result ∙ l.invariant.sized;
-      each = store_more (MovedWord a.z a.image.now a.answer.now) l.next l.k m.result (pos 0) b l.invariant.each m.ensures;
+      each = store_more (MovedWord a.image.now.sizes a.image.now.bytes.now a.answer.now) l.next l.k m.result (pos 0) b l.invariant.each m.ensures;
     })
 
 pub returns : goal.returns
