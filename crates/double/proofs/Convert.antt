@@ -7,7 +7,8 @@ use lib.Ieee.Fits.{down_pos}
 use lib.Ieee.Exact.{HasValue}
 use lib.Ieee.Scale.{finite}
 use Rattle.word.specs.Format.{is_format, top, in_word}
-use Rattle.double.specs.Double.{signed, scalable, rounded, accepted, conversion_number, convert, converted_number, power, rounded_word}
+use Rattle.double.specs.Double.{signed, scalable, rounded, accepted, conversion_number, convert, converted_number, round_up, round_down, accepted_limits, limits_number, convert_limits, limit_words_number, power, rounded_word}
+use Rattle.double.specs.declared.Limits.{Limits}
 use Rattle.double.proofs.Rules.{IsRule, rule_large}
 use Rattle.double.proofs.Signs.{abs_signed}
 use Rattle.double.proofs.Value.{two32, quotient_of_value, large_below, large_above}
@@ -108,3 +109,11 @@ convert_scaled rule R b w x u t =
 pub convert_unformatted : (rule : ℤ → ℕ → ℤ) (b w : ℕ) (x : Float) → is_format b w ≡ false → None ≡ convert rule b w x
 unfolding accepted
 convert_unformatted rule b w x u = rw u
+
+-- ---- a motor's limits
+pub limits_number_lem : (b w : ℕ) (l : Limits) → limit_words_number (convert_limits b w l) ≡ limits_number b w l
+limits_number_lem b w l = go (accepted_limits b w l) (rounded round_up b l.low, rounded round_down b l.high)
+  where
+    go : (t : Bool) (words : ℤ × ℤ) → limit_words_number (cond t (Some words) None) ≡ cond t 0 5
+    go true words = refl
+    go false words = refl

@@ -1,24 +1,20 @@
 -- Document 01, "The design sheet", with requests 1, 3 and 7: what line 01 gives, the lines due after it, and the word of a line's double.
 -- Definitions only.
-use Rattle.std.specs.Prelude.{ℕ, ◌+◌, ◌-◌, ◌*◌, ◌/◌, ◌%◌, ◌≤◌, ◌<◌, Bool, true, false, not, ◌&&◌, ◌||◌, cond, List, [], ◌∷◌, ltb, eqb, ℤ, pos, negsuc, Float}
+use Rattle.std.specs.Prelude.{ℕ, ◌+◌, ◌-◌, ◌*◌, ◌/◌, ◌%◌, ◌≤◌, ◌<◌, Bool, true, false, not, ◌&&◌, ◌||◌, cond, List, [], ◌∷◌, ltb, eqb, ℤ, pos, negsuc, Float, Option, Some, None, Result, Ok, Err}
 use Rattle.std.specs.Float.{fin, binary64}
 use Rattle.std.specs.Float.Ieee.{of_bits}
 use Rattle.double.specs.Double.{accepted, convert, converted_number, is_negative, rounded, rule_of}
-use Rattle.double.specs.declared.Converted.{Converted}
-use Rattle.double.specs.declared.Converted.TheVariants.{Word, Refused}
 use Rattle.double.specs.declared.Rounding.{Rounding}
 use Rattle.double.specs.declared.Rounding.TheVariants.{Down, Up, Nearest}
 use Rattle.image.specs.Order.{check, first_fault}
 use Rattle.image.specs.Sizes.{command_count, sound}
 use Rattle.image.specs.declared.Sizes.{Sizes}
 use Rattle.line.specs.Line.{line_number}
-use Rattle.line.specs.declared.Line.{Line}
-use Rattle.line.specs.declared.Line.TheVariants.{Frame, Malformed, End}
+use Rattle.line.specs.declared.Frame.{Frame}
+use Rattle.refusal.specs.Number.{number_of}
+use Rattle.refusal.specs.declared.Refusal.{Refusal}
+use Rattle.refusal.specs.declared.Refusal.TheVariants.{Misplaced, Size}
 use Rattle.frame.specs.declared.Due.{Due}
-use Rattle.frame.specs.declared.Head.{Head}
-use Rattle.frame.specs.declared.Head.TheVariants.{Sized, Unsized}
-use Rattle.frame.specs.declared.Value.{Value}
-use Rattle.frame.specs.declared.Value.TheVariants.{Double, Fault}
 
 -- ---- line 01
 
@@ -38,24 +34,21 @@ frame_sizes row column bits = record {
 abbrev pub frame_zeros : ℕ → Bool
 frame_zeros bits = eqb (bits % 65536) 0
 
--- what line 01 gives: its number is that of the line, or 2 ("for 01 only the kind", and now "only the other two 0 bytes"), or 3
-unfoldable pub head_of : Line → Head
-head_of End = Unsized (line_number End)
-head_of Malformed = Unsized (line_number Malformed)
-head_of (Frame kind row column bits) =
-    cond (eqb kind 1 && frame_zeros bits) (cond (sound (frame_sizes row column bits)) (Sized (frame_sizes row column bits)) (Unsized 3)) (Unsized 2)
+-- what line 01 gives: its refusal is that of the line, or 2 ("for 01 only the kind", and now "only the other two 0 bytes"), or 3
+unfoldable pub head_of : Result Frame Refusal → Result Sizes Refusal
+head_of (Err why) = Err why
+head_of (Ok f) =
+    cond (eqb f.kind 1 && frame_zeros f.bits) (cond (sound (frame_sizes f.row f.column f.bits)) (Ok (frame_sizes f.row f.column f.bits)) (Err Size)) (Err Misplaced)
 
--- document 01's number for each case of `Head`: sizes go with 0, a fault with its own
-abbrev pub head_fault : Head → ℕ
-head_fault (Sized z) = 0
-head_fault (Unsized n) = n
+-- document 01's number of what line 01 gives: sizes go with 0, a refusal with its own
+abbrev pub head_fault : Result Sizes Refusal → ℕ
+head_fault h = number_of h
 
 -- the number of line 01: that of the line, 2 for "only the kind", and "the other two 0 bytes", 3 for "a size outside the ranges"
-abbrev pub line_one_number : Line → ℕ
-line_one_number End = line_number End
-line_one_number Malformed = line_number Malformed
-line_one_number (Frame kind row column bits) =
-    first_fault (check 2 (eqb kind 1) ∷ check 2 (frame_zeros bits) ∷ check 3 (sound (frame_sizes row column bits)) ∷ [])
+abbrev pub line_one_number : Result Frame Refusal → ℕ
+line_one_number (Err why) = line_number (Err why)
+line_one_number (Ok f) =
+    first_fault (check 2 (eqb f.kind 1) ∷ check 2 (frame_zeros f.bits) ∷ check 3 (sound (frame_sizes f.row f.column f.bits)) ∷ [])
 
 -- ---- the lines due after it
 
@@ -141,13 +134,13 @@ abbrev pub is_input_limit : ℕ → Bool
 is_input_limit kind = eqb kind 7 || eqb kind 9
 
 -- not such a limit "below 0 once rounded"
-abbrev pub not_below_zero : Converted → Converted
-not_below_zero (Word (pos n)) = Word (pos n)
-not_below_zero (Word (negsuc n)) = Refused
-not_below_zero Refused = Refused
+abbrev pub not_below_zero : Option ℤ → Option ℤ
+not_below_zero (Some (pos n)) = Some (pos n)
+not_below_zero (Some (negsuc n)) = None
+not_below_zero None = None
 
 -- the double of a line of some kind "scaled by 2^b .. and then rounded"
-unfoldable pub word_of : Sizes → ℕ → Float → Converted
+unfoldable pub word_of : Sizes → ℕ → Float → Option ℤ
 word_of z kind x =
     cond (is_input_limit kind) (not_below_zero (convert (rule_of (rounding_of kind)) z.b z.w x)) (convert (rule_of (rounding_of kind)) z.b z.w x)
 
@@ -158,37 +151,34 @@ word_number z kind x =
     first_fault (check 5 (accepted rule z.b z.w x) ∷ check 5 (not (is_input_limit kind && is_negative (rounded rule z.b x))) ∷ [])
 
 -- the word of a conversion; 0 where there is none
-abbrev pub converted_word : Converted → ℤ
-converted_word (Word v) = v
-converted_word Refused = pos 0
+abbrev pub converted_word : Option ℤ → ℤ
+converted_word (Some v) = v
+converted_word None = pos 0
 
 -- "the kind, row and column due here"
 abbrev pub is_due : Due → ℕ → ℕ → ℕ → Bool
 is_due d kind row column = eqb kind d.kind && eqb row d.row && eqb column d.column
 
--- what a line gives where d is due: its number is that of the line, or 2; "from 02 on the value is an IEEE 754 double"
-abbrev pub value_of : Due → Line → Value
-value_of d End = Fault (line_number End)
-value_of d Malformed = Fault (line_number Malformed)
-value_of d (Frame kind row column bits) = cond (is_due d kind row column) (Double (of_bits binary64 bits)) (Fault 2)
+-- what a line gives where d is due: its refusal is that of the line, or 2; "from 02 on the value is an IEEE 754 double"
+abbrev pub value_of : Due → Result Frame Refusal → Result Float Refusal
+value_of d (Err why) = Err why
+value_of d (Ok f) = cond (is_due d f.kind f.row f.column) (Ok (of_bits binary64 f.bits)) (Err Misplaced)
 
--- document 01's number for each case of `Value`: a double, not yet converted, goes with 0, a fault with its own
-abbrev pub value_fault : Value → ℕ
-value_fault (Double x) = 0
-value_fault (Fault n) = n
+-- document 01's number of what a line gives: a double, not yet converted, goes with 0, a refusal with its own
+abbrev pub value_fault : Result Float Refusal → ℕ
+value_fault v = number_of v
 
 -- and once converted: a double goes with the number of its conversion, 0 or 5
-abbrev pub value_number : Sizes → ℕ → Value → ℕ
-value_number z kind (Double x) = converted_number (word_of z kind x)
-value_number z kind (Fault n) = n
+abbrev pub value_number : Sizes → ℕ → Result Float Refusal → ℕ
+value_number z kind (Ok x) = converted_number (word_of z kind x)
+value_number z kind (Err why) = value_fault (Err why)
 
 -- the number of a line where d is due: that of the line, or 2 for "not the kind, row and column due here"
-abbrev pub due_number : Due → Line → ℕ
-due_number d End = line_number End
-due_number d Malformed = line_number Malformed
-due_number d (Frame kind row column bits) = first_fault (check 2 (is_due d kind row column) ∷ [])
+abbrev pub due_number : Due → Result Frame Refusal → ℕ
+due_number d (Err why) = line_number (Err why)
+due_number d (Ok f) = first_fault (check 2 (is_due d f.kind f.row f.column) ∷ [])
 
 -- the double of each case; plus zero where there is none
-abbrev pub value_double : Value → Float
-value_double (Double x) = x
-value_double (Fault n) = fin false 0 (pos 0)
+abbrev pub value_double : Result Float Refusal → Float
+value_double (Ok x) = x
+value_double (Err why) = fin false 0 (pos 0)

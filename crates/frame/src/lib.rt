@@ -6,16 +6,10 @@ ghost use Rattle.image.specs.Sizes.{Sound};
 ghost use Rattle.double.specs.Double.{converted_number};
 ghost use Rattle.frame.specs.Frame.{frame_sizes, head_of, head_fault, line_one_number, total, due, due_at, rounding_of, not_below_zero, word_of, word_number, value_of, value_fault, due_number};
 
-use double::{Converted, Rounding};
+use double::Rounding;
 use image::Sizes;
-use line::Line;
-
-// What line 01 gives: the sizes, or its fault.
-#[derive(Clone, Copy)]
-pub enum Head {
-    Sized(Sizes),
-    Unsized(u32),
-}
+use line::Frame;
+use refusal::Refusal;
 
 // The kind, row and column that a line has to have.
 #[derive(Clone, Copy)]
@@ -23,13 +17,6 @@ pub struct Due {
     pub kind: usize,
     pub row: usize,
     pub column: usize,
-}
-
-// What a later line gives: its double, or its fault.
-#[derive(Clone, Copy)]
-pub enum Value {
-    Double(f64),
-    Fault(u32),
 }
 
 // The sizes of line 01.
@@ -48,32 +35,19 @@ fn frame_sizes(row: usize, column: usize, bits: u64) -> Sizes
 }
 
 // What line 01 gives.
-pub fn head_of(l: Line) -> Head
+#[tactic(auto, unfolding(crate::specs::Frame::head_of))]
+pub fn head_of(l: Result<Frame, Refusal>) -> Result<Sizes, Refusal>
     ensures { (result ≡ head_of l) × (head_fault result ≡ line_one_number l) }
 {
-    match l {
-        Line::Frame {
-            kind,
-            row,
-            column,
-            bits,
-        } => {
-            if kind != 1 {
-                return Head::Unsized(2);
-            }
-            if bits % 65536 != 0 {
-                return Head::Unsized(2);
-            }
-            let z = frame_sizes(row, column, bits);
-            if image::is_sound(z) {
-                Head::Sized(z)
-            } else {
-                Head::Unsized(3)
-            }
-        }
-        Line::Malformed => Head::Unsized(1),
-        Line::End => Head::Unsized(4),
+    let frame = l?;
+    if frame.kind != 1 || frame.bits % 65536 != 0 {
+        return Err(Refusal::Misplaced);
     }
+    let z = frame_sizes(frame.row, frame.column, frame.bits);
+    if !z.is_sound() {
+        return Err(Refusal::Size);
+    }
+    Ok(z)
 }
 
 fn frame_due(kind: usize, row: usize, column: usize) -> Due
@@ -83,11 +57,12 @@ fn frame_due(kind: usize, row: usize, column: usize) -> Due
 }
 
 // What is due at a line after line 01.
+#[tactic(auto, using(crate::proofs::Laws::flat))]
 pub fn due_at(z: Sizes, i: usize) -> Due
     requires { Sound z × (i < total z) }
     ensures { result ≡ due_at z i }
 {
-    let n = z.nu * z.steps;
+    let n = z.command_count();
     let nx = z.nx;
     if i < n * n {
         return frame_due(2, i / n, i % n);
@@ -125,67 +100,40 @@ pub fn due_at(z: Sizes, i: usize) -> Due
 fn rounding(kind: usize) -> Rounding
     ensures { result ≡ rounding_of kind }
 {
-    if kind == 2 {
-        return Rounding::Nearest;
-    }
-    if kind == 3 {
-        return Rounding::Nearest;
-    }
-    if kind == 8 {
-        return Rounding::Nearest;
-    }
-    if kind == 5 {
-        Rounding::Down
-    } else {
-        Rounding::Up
+    match kind {
+        2 | 3 | 8 => Rounding::Nearest,
+        5 => Rounding::Down,
+        _ => Rounding::Up,
     }
 }
 
 // The word of a limit of the state or the target is not negative.
-fn not_below_zero(c: Converted) -> Converted
+fn not_below_zero(c: Option<i64>) -> Option<i64>
     ensures { result ≡ not_below_zero c }
 {
-    match c {
-        Converted::Word(v) => if v < 0 { Converted::Refused } else { c },
-        Converted::Refused => Converted::Refused,
-    }
+    c.filter(|v| 0 <= *v)
 }
 
 // The word of a value of a kind.
 #[tactic(auto, unfolding(crate::specs::Frame::word_of))]
-pub fn word_of(z: Sizes, kind: usize, x: f64) -> Converted
+pub fn word_of(z: Sizes, kind: usize, x: f64) -> Option<i64>
     ensures { (result ≡ word_of z kind x) × (converted_number result ≡ word_number z kind x) }
 {
     let c = double::to_word(x, z.b, z.w, rounding(kind));
-    if kind == 7 {
-        return not_below_zero(c);
+    if matches!(kind, 7 | 9) {
+        not_below_zero(c)
+    } else {
+        c
     }
-    if kind == 9 { not_below_zero(c) } else { c }
 }
 
-// What a line gives where d is due.
-pub fn value_of(d: Due, l: Line) -> Value
+// What a line gives where d is due: its double.
+pub fn value_of(d: Due, l: Result<Frame, Refusal>) -> Result<f64, Refusal>
     ensures { (result ≡ value_of d l) × (value_fault result ≡ due_number d l) }
 {
-    match l {
-        Line::Frame {
-            kind,
-            row,
-            column,
-            bits,
-        } => {
-            if kind != d.kind {
-                return Value::Fault(2);
-            }
-            if row != d.row {
-                return Value::Fault(2);
-            }
-            if column != d.column {
-                return Value::Fault(2);
-            }
-            Value::Double(double::of_pattern(bits))
-        }
-        Line::Malformed => Value::Fault(1),
-        Line::End => Value::Fault(4),
+    let frame = l?;
+    if frame.kind != d.kind || frame.row != d.row || frame.column != d.column {
+        return Err(Refusal::Misplaced);
     }
+    Ok(double::of_pattern(frame.bits))
 }
