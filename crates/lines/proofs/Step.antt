@@ -14,42 +14,38 @@ use lib.ListN.{length, get_or, set, length-set}
 use lib.Seq.{get_or-set_same, get_or-set_other}
 use borrow.Author.Count.{below_more}
 use Rattle.double.specs.Double.{convert, converted_number, accepted, rounded, round_up, round_down, convert_limits}
-use Rattle.double.specs.declared.Converted.TheVariants.{Word, Refused}
-use Rattle.double.specs.declared.LimitWords.TheVariants.{Pair, NoPair}
 use Rattle.double.specs.declared.Limits.{Limits}
 use Rattle.double.proofs.Convert.{convert_word}
 use Rattle.image.specs.declared.Sizes.{Sizes}
 use Rattle.image.specs.Sizes.{Sound, command_count}
 use Rattle.line.specs.Line.{line_at}
-use Rattle.line.specs.declared.Line.{Line}
+use Rattle.std.specs.Prelude.{Option, Some, None, Result, Ok, Err}
+use Rattle.refusal.specs.declared.Refusal.{Refusal}
+use Rattle.refusal.specs.Number.{number}
+use Rattle.refusal.proofs.Numbers.{above_zero}
+use Rattle.line.specs.declared.Frame.{Frame}
 use Rattle.frame.specs.declared.Due.{Due}
-use Rattle.frame.specs.declared.Value.{Value}
-use Rattle.frame.specs.declared.Value.TheVariants.{Double, Fault}
 use Rattle.frame.specs.Frame.{converted_word, due, due_at, is_low, low_base, total, value_double, value_number, value_of, word_of}
 use Rattle.frame.proofs.Laws.{total_high}
 use Rattle.frame.proofs.Limits.{high_due, high_of, low_due, low_of}
-use Rattle.frame.proofs.Word.{fault_some, is_word, kind_4, kind_5, nan_refused}
+use Rattle.frame.proofs.Word.{is_word, kind_4, kind_5, nan_refused}
 use Rattle.lines.specs.Lines.{command_of, line_double, line_fault, line_value, line_word, ReadTo}
 
 -- ---- what a line holds
 module _ (z : Sizes) (s : List ℕ) (i : ℕ) where
-  pub value_is : (g : Value) (d : Due) (l : Line) → g ≡ value_of d l → d ≡ due_at z i → l ≡ line_at s (23 * (i + 1)) → line_value z s i ≡ g
+  pub value_is : (g : Result Float Refusal) (d : Due) (l : Result Frame Refusal) → g ≡ value_of d l → d ≡ due_at z i → l ≡ line_at s (23 * (i + 1)) → line_value z s i ≡ g
   unfolding line_value
   value_is g d l p q r = rw (p, q, r)
 
-  pub fault_none : (n : ℕ) → line_value z s i ≡ Fault n → n ≡ 0 → ⊥
-  unfolding line_value
-  fault_none n e q = fault_some (due_at z i) (line_at s (23 * (i + 1))) n e q
-
-  pub value_fault_lem : (n : ℕ) → line_value z s i ≡ Fault n → n ≡ line_fault z s i
+  pub value_fault_lem : (why : Refusal) → line_value z s i ≡ Err why → number why ≡ line_fault z s i
   unfolding line_fault
-  value_fault_lem n e = rw e
+  value_fault_lem why e = rw e
 
-  pub fault_word : (x : Float) (v : ℤ) → line_value z s i ≡ Double x → word_of z (due_at z i).kind x ≡ Word v → (line_fault z s i ≡ 0) × (line_word z s i ≡ v)
+  pub fault_word : (x : Float) (v : ℤ) → line_value z s i ≡ Ok x → word_of z (due_at z i).kind x ≡ Some v → (line_fault z s i ≡ 0) × (line_word z s i ≡ v)
   unfolding line_fault line_word
   fault_word x v e h = (rw (e, h), rw (e, h))
 
-  pub fault_refused : (x : Float) → line_value z s i ≡ Double x → word_of z (due_at z i).kind x ≡ Refused → line_fault z s i ≡ 5
+  pub fault_refused : (x : Float) → line_value z s i ≡ Ok x → word_of z (due_at z i).kind x ≡ None → line_fault z s i ≡ 5
   unfolding line_fault
   fault_refused x e h = rw (e, h)
 
@@ -58,11 +54,11 @@ module _ (z : Sizes) (s : List ℕ) (i : ℕ) where
   unfolding line_fault is_nan
   line_number_lem = by (line_value z s i) refl
     where
-      by : (g : Value) → line_value z s i ≡ g → value_number z (due_at z i).kind g ≡ 0 → T (not (is_nan (value_double g)))
-      by (Double nan) e h = let n : ◌≡◌ {A = ℕ} 5 0 = ap converted_number (sym (nan_refused z (due_at z i).kind nan refl)) ∙ h in let w : ⊥ = omega arith in absurd w
-      by (Double (inf t)) e h = tt
-      by (Double (fin t m k)) e h = tt
-      by (Fault n) e h = absurd (fault_none n e h)
+      by : (g : Result Float Refusal) → line_value z s i ≡ g → value_number z (due_at z i).kind g ≡ 0 → T (not (is_nan (value_double g)))
+      by (Ok nan) e h = let n : ◌≡◌ {A = ℕ} 5 0 = ap converted_number (sym (nan_refused z (due_at z i).kind nan refl)) ∙ h in let w : ⊥ = omega arith in absurd w
+      by (Ok (inf t)) e h = tt
+      by (Ok (fin t m k)) e h = tt
+      by (Err why) e h = let w : ⊥ = omega (arith, above_zero why, h) in absurd w
 
 -- ---- both limits of a command
 
@@ -75,28 +71,28 @@ of_command z o d kind k e h =
     rw e (mod-lt k o.nu_low, (div-lt_iff_lt-mul o.nu_low).1 (subst (λ (n : ℕ). k < n) (mul_comm z.nu z.steps) h), div-add-mod' k z.nu)
 
 module _ (z : Sizes) (s : List ℕ) (k : ℕ) where
-  pub passed_word : (g : Value) → line_value z s k ≡ g → value_number z (due_at z k).kind g ≡ 0 → word_of z (due_at z k).kind (value_double g) ≡ Word (converted_word (word_of z (due_at z k).kind (value_double g)))
-  passed_word (Double x) e h = is_word (word_of z (due_at z k).kind x) h
-  passed_word (Fault n) e h = absurd (fault_none z s k n e h)
+  pub passed_word : (g : Result Float Refusal) → line_value z s k ≡ g → value_number z (due_at z k).kind g ≡ 0 → word_of z (due_at z k).kind (value_double g) ≡ Some (converted_word (word_of z (due_at z k).kind (value_double g)))
+  passed_word (Ok x) e h = is_word (word_of z (due_at z k).kind x) h
+  passed_word (Err why) e h = let w : ⊥ = omega (arith, above_zero why, h) in absurd w
 
-  pub low_word : is_low z k → line_fault z s k ≡ 0 → convert round_up z.b z.w (line_double z s k) ≡ Word (line_word z s k)
+  pub low_word : is_low z k → line_fault z s k ≡ 0 → convert round_up z.b z.w (line_double z s k) ≡ Some (line_word z s k)
   unfolding line_fault line_word
   low_word l f = sym (kind_4 z (due_at z k).kind (line_double z s k) (ap (λ (d : Due). d.kind) (low_due z k l))) ∙ passed_word (line_value z s k) refl f
 
 -- what the pair of words says of the two tests
-pair_both : (p q : Bool) {u v a b : ℤ} → Pair a b ≡ cond (p && q) (Pair u v) NoPair → (p ≡ true) × (q ≡ true) × (a ≡ u) × (b ≡ v)
-pair_both true true e = (refl, refl, cc, cc)
+pair_both : (p q : Bool) {u v a b : ℤ} → ◌≡◌ {A = Option (ℤ × ℤ)} (Some (a, b)) (cond (p && q) (Some (u, v)) None) → (p ≡ true) × (q ≡ true) × (a ≡ u) × (b ≡ v)
+pair_both true true {u} {v} {a} {b} e = let k : ◌≡◌ {A = ℤ × ℤ} (a, b) (u, v) = cc in (refl, refl, ap (λ (x : ℤ × ℤ). x.0) k, ap (λ (x : ℤ × ℤ). x.1) k)
 pair_both true false e = let x : ◌≡◌ {A = ℕ} 0 1 = cc in let y : ⊥ = omega arith in absurd y
 pair_both false q e = let x : ◌≡◌ {A = ℕ} 0 1 = cc in let y : ⊥ = omega arith in absurd y
 
-pair_none : (p q : Bool) (u v : ℤ) → NoPair ≡ cond (p && q) (Pair u v) NoPair → p ≡ true → q ≡ false
-pair_none p false u v e h = refl
-pair_none true true u v e h = let x : ◌≡◌ {A = ℕ} 0 1 = cc in let y : ⊥ = omega arith in absurd y
-pair_none false true u v e h = absurd (false≢true h)
+pair_none : (p q : Bool) (w : ℤ × ℤ) → ◌≡◌ {A = Option (ℤ × ℤ)} None (cond (p && q) (Some w) None) → p ≡ true → q ≡ false
+pair_none p false w e h = refl
+pair_none true true w e h = let x : ◌≡◌ {A = ℕ} 0 1 = cc in let y : ⊥ = omega arith in absurd y
+pair_none false true w e h = absurd (false≢true h)
 
 -- the words of a command's limits, from what rounding them inward gives
-module _ (z : Sizes) (s : List ℕ) (i : ℕ) (ws : List ℤ) (ls : List Float) (o : Sound z) (r : ReadTo z s i ws ls) (k5 : (due_at z i).kind ≡ 5) (x : Float) (g : line_value z s i ≡ Double x) (command : ℕ) (is : command ≡ i - low_base z - command_count z) where
-  lower : convert round_up z.b z.w (get_or ls command nan) ≡ Word (line_word z s (i - command_count z))
+module _ (z : Sizes) (s : List ℕ) (i : ℕ) (ws : List ℤ) (ls : List Float) (o : Sound z) (r : ReadTo z s i ws ls) (k5 : (due_at z i).kind ≡ 5) (x : Float) (g : line_value z s i ≡ Ok x) (command : ℕ) (is : command ≡ i - low_base z - command_count z) where
+  lower : convert round_up z.b z.w (get_or ls command nan) ≡ Some (line_word z s (i - command_count z))
   lower =
       let h = high_of z i k5 in
       let e : low_base z + command ≡ i - command_count z = omega arith in
@@ -106,15 +102,15 @@ module _ (z : Sizes) (s : List ℕ) (i : ℕ) (ws : List ℤ) (ls : List Float) 
   abbrev limits : Limits
   limits = record { low = get_or ls command nan; high = x }
 
-  pub pair_words : (a b : ℤ) → Pair a b ≡ convert_limits z.b z.w limits → (line_word z s (i - command_count z) ≡ a) × (line_word z s i ≡ b) × (line_fault z s i ≡ 0)
+  pub pair_words : (a b : ℤ) → Some (a, b) ≡ convert_limits z.b z.w limits → (line_word z s (i - command_count z) ≡ a) × (line_word z s i ≡ b) × (line_fault z s i ≡ 0)
   pair_words a b e =
       let p = pair_both (accepted round_up z.b z.w (get_or ls command nan)) (accepted round_down z.b z.w x) e in
       let w = fault_word z s i x (rounded round_down z.b x) g (kind_5 z (due_at z i).kind x k5 ∙ rw p.1) in
       ((convert_word round_up z.b z.w (get_or ls command nan) lower).1 ∙ sym p.2, w.1 ∙ sym p.3, w.0)
 
-  pub pair_fault : NoPair ≡ convert_limits z.b z.w limits → line_fault z s i ≡ 5
+  pub pair_fault : None ≡ convert_limits z.b z.w limits → line_fault z s i ≡ 5
   pair_fault e =
-      let q = pair_none (accepted round_up z.b z.w (get_or ls command nan)) (accepted round_down z.b z.w x) _ _ e (convert_word round_up z.b z.w (get_or ls command nan) lower).0 in
+      let q = pair_none (accepted round_up z.b z.w (get_or ls command nan)) (accepted round_down z.b z.w x) _ e (convert_word round_up z.b z.w (get_or ls command nan) lower).0 in
       fault_refused z s i x g (kind_5 z (due_at z i).kind x k5 ∙ rw q)
 
 -- ---- the line is read

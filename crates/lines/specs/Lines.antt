@@ -1,18 +1,18 @@
 -- Document 01, "The design sheet": a line after line 01 by its place, its fault and its word; and what the code holds once some are read.
 -- Definitions only.
-use Rattle.std.specs.Prelude.{ℕ, ◌+◌, ◌*◌, ◌<◌, ◌≡◌, List, [], ◌∷◌, length, get_or, ℤ, pos, Float}
+use Rattle.std.specs.Prelude.{ℕ, ◌+◌, ◌*◌, ◌<◌, ◌≡◌, List, [], ◌∷◌, length, get_or, ℤ, pos, Float, Result}
 use Rattle.std.specs.Float.{nan}
 use Rattle.image.specs.declared.Sizes.{Sizes}
 use Rattle.image.specs.Sizes.{command_count}
 use Rattle.line.specs.Line.{line_at}
 use Rattle.frame.specs.declared.Due.{Due}
-use Rattle.frame.specs.declared.Value.{Value}
+use Rattle.refusal.specs.declared.Refusal.{Refusal}
 use Rattle.frame.specs.Frame.{due_at, is_low, low_base, word_of, converted_word, value_of, value_number, value_double}
 
 -- ---- a line by its place
 
 -- what line i after line 01 gives: lines of "22 hexadecimal digits .., then byte 10" have 23 bytes
-unfoldable pub line_value : Sizes → List ℕ → ℕ → Value
+unfoldable pub line_value : Sizes → List ℕ → ℕ → Result Float Refusal
 line_value z s i = value_of (due_at z i) (line_at s (23 * (i + 1)))
 
 -- its "IEEE 754 double"
