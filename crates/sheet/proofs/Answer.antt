@@ -11,10 +11,12 @@ use Rattle.word.proofs.Words.{length_words}
 use Rattle.gradient.proofs.Index.{tab_cong}
 use Rattle.image.specs.declared.Sizes.{Sizes}
 use Rattle.line.specs.Line.{line_at}
-use Rattle.frame.specs.declared.Head.{Head}
-use Rattle.frame.specs.declared.Head.TheVariants.{Sized, Unsized}
+use Rattle.std.specs.Prelude.{Result, Ok, Err}
+use Rattle.refusal.specs.declared.Refusal.{Refusal}
+use Rattle.refusal.specs.Number.{number}
+use Rattle.refusal.proofs.Numbers.{above_zero}
 use Rattle.frame.specs.Frame.{head_of, total}
-use Rattle.frame.proofs.Sized.{head_none, head_sound}
+use Rattle.frame.proofs.Sized.{head_sound}
 use Rattle.lines.specs.Lines.{line_fault, line_word, size_words}
 use Rattle.sheet.specs.Reading.{Answered}
 use Rattle.sheet.specs.Sheet.{end_number, head_number, lines_number, lines_words, sheet_image, sheet_number, sheet_words}
@@ -22,7 +24,7 @@ use Rattle.sheet.proofs.Fits.{lines_fit}
 use Rattle.sheet.proofs.Whole.{first_none}
 
 -- ---- line 01 gives sizes
-module _ (z : Sizes) (s : List ℕ) (h : head_of (line_at s 0) ≡ Sized z) where
+module _ (z : Sizes) (s : List ℕ) (h : head_of (line_at s 0) ≡ Ok z) where
   sized_words : sheet_number s ≡ 0 → sheet_words s ≡ lines_words z s
   unfolding sheet_words
   sized_words e = rw (eq-eqb (sheet_number s) 0 e, h)
@@ -33,7 +35,7 @@ module _ (z : Sizes) (s : List ℕ) (h : head_of (line_at s 0) ≡ Sized z) wher
   sized_passes f l = rw h (first_none (line_fault z s) (total z) (end_number z s) f ∙ rw (le-leb (length s) (23 * (total z + 1)) l))
 
 -- two sheets that pass with the same sizes and the same word of each line
-pub image_cong : (z : Sizes) (s t : List ℕ) → head_of (line_at s 0) ≡ Sized z → head_of (line_at t 0) ≡ Sized z → sheet_number s ≡ 0 → sheet_number t ≡ 0
+pub image_cong : (z : Sizes) (s t : List ℕ) → head_of (line_at s 0) ≡ Ok z → head_of (line_at t 0) ≡ Ok z → sheet_number s ≡ 0 → sheet_number t ≡ 0
     → ((i : ℕ) → i < total z → line_word z s i ≡ line_word z t i) → sheet_image s ≡ sheet_image t
 unfolding sheet_image
 image_cong z s t h k p q e =
@@ -43,7 +45,7 @@ image_cong z s t h k p q e =
 -- ---- a sheet that passes
 pub record Passing (s : List ℕ) : Type 0 where
   pub sizes : Sizes
-  pub head : head_of (line_at s 0) ≡ Sized sizes
+  pub head : head_of (line_at s 0) ≡ Ok sizes
   pub number : lines_number sizes s ≡ 0
   pub words : sheet_words s ≡ lines_words sizes s
 
@@ -51,29 +53,29 @@ pub passing : (s : List ℕ) → sheet_number s ≡ 0 → Passing s
 unfolding sheet_number
 passing s e = by (head_of (line_at s 0)) refl
   where
-    number_by : (h : Head) → head_of (line_at s 0) ≡ h → head_number h s ≡ 0
-    number_by h q = ap (λ (x : Head). head_number x s) (sym q) ∙ e
+    number_by : (h : Result Sizes Refusal) → head_of (line_at s 0) ≡ h → head_number h s ≡ 0
+    number_by h q = ap (λ (x : Result Sizes Refusal). head_number x s) (sym q) ∙ e
 
-    by : (h : Head) → head_of (line_at s 0) ≡ h → Passing s
-    by (Sized z) h = record {
+    by : (h : Result Sizes Refusal) → head_of (line_at s 0) ≡ h → Passing s
+    by (Ok z) h = record {
       sizes = z;
       head = h;
-      number = number_by (Sized z) h;
+      number = number_by (Ok z) h;
       words = sized_words z s h e;
     }
-    by (Unsized n) h = absurd (head_none (line_at s 0) n h (number_by (Unsized n) h))
+    by (Err why) h = let w : ⊥ = omega (arith, above_zero why, number_by (Err why) h) in absurd w
 
 -- ---- the answer
-module _ (s : List ℕ) (n c : ℕ) (ws : List ℤ) where
-  pub answered_unsized : head_of (line_at s 0) ≡ Unsized n → c ≤ 569 → Answered (sheet_number s) (sheet_words s) n c ws
-  answered_unsized h l = record {
-    number_is = unfold sheet_number in rw h;
-    words_are = λ w. absurd (head_none (line_at s 0) n h w);
-    count_is = λ w. absurd (head_none (line_at s 0) n h w);
-    count_high = l;
-  }
+pub answered_unsized : (s : List ℕ) (why : Refusal) (ws : List ℤ) → head_of (line_at s 0) ≡ Err why → Answered (sheet_number s) (sheet_words s) (number why) 0 ws
+answered_unsized s why ws h = record {
+  number_is = unfold sheet_number in rw h;
+  words_are = λ w. let n : ⊥ = omega (arith, above_zero why, w) in absurd n;
+  count_is = λ w. let n : ⊥ = omega (arith, above_zero why, w) in absurd n;
+  count_high = omega arith;
+}
 
-  module _ (z : Sizes) (h : head_of (line_at s 0) ≡ Sized z) (t : Answered (lines_number z s) (lines_words z s) n c ws) where
+module _ (s : List ℕ) (n c : ℕ) (ws : List ℤ) where
+  module _ (z : Sizes) (h : head_of (line_at s 0) ≡ Ok z) (t : Answered (lines_number z s) (lines_words z s) n c ws) where
     number_of : n ≡ sheet_number s
     unfolding sheet_number
     number_of = rw h t.number_is

@@ -7,7 +7,7 @@ use Prim.Native.Nat.{ℕ, zero, suc, ◌+◌, ◌-◌, ◌*◌, ◌≤◌, ◌<�
 use native.Mathlib.Nat.{eq-or-lt_of_le, le_of_suc-le-suc, not-suc-le-zero}
 use native.Mathlib.Omega.{arith}
 use lib.Dec.{eqb, leb, lit<}
-use lib.Ieee.{binary64, of_bits}
+use lib.Ieee.{Float, binary64, of_bits}
 use lib.ListN.{length}
 use borrow.Author.Tests.{eqb-true, leb-true}
 use Rattle.word.specs.Word.{word_at}
@@ -19,16 +19,17 @@ use Rattle.image.specs.Layout.{sizes_of}
 use Rattle.image.specs.declared.Sizes.{Sizes}
 use Rattle.image.proofs.Ordering.{both, none, passed}
 use Rattle.line.specs.Line.{is_frame, line_at, frame_at}
-use Rattle.line.specs.declared.Line.{Line}
+use Rattle.std.specs.Prelude.{Result, Ok, Err}
+use Rattle.refusal.specs.declared.Refusal.{Refusal}
+use Rattle.refusal.proofs.Numbers.{above_zero}
+use Rattle.line.specs.declared.Frame.{Frame}
 use Rattle.line.proofs.Laws.{framed, frame_end}
-use Rattle.frame.specs.declared.Value.{Value}
-use Rattle.frame.specs.declared.Value.TheVariants.{Double, Fault}
 use Rattle.frame.specs.Frame.{due_at, is_due, rounding_of, total, value_double, value_number, value_of}
 use Rattle.frame.proofs.Sized.{differ, head_sound}
 use Rattle.frame.proofs.Laws.{total_is}
 use Rattle.frame.proofs.Word.{due_double, word_rounded, word_scalable}
 use Rattle.lines.specs.Lines.{line_double, line_fault, line_value, line_word}
-use Rattle.lines.proofs.Step.{fault_none, passed_word}
+use Rattle.lines.proofs.Step.{passed_word}
 use Rattle.sheet.specs.Laws.{Rounded}
 use Rattle.sheet.specs.Sheet.{end_number, first, sheet_image, sheet_number}
 use Rattle.sheet.proofs.Answer.{Passing, passing}
@@ -47,17 +48,17 @@ module _ (z : Sizes) (s : List ℕ) (i : ℕ) (f : line_fault z s i ≡ 0) where
   abbrev at : ℕ
   at = 23 * (i + 1)
 
-  value_double_lem : line_value z s i ≡ Double (line_double z s i)
+  value_double_lem : line_value z s i ≡ Ok (line_double z s i)
   unfolding line_fault
   value_double_lem = by (line_value z s i) refl f
     where
-      by : (g : Value) → line_value z s i ≡ g → value_number z (due_at z i).kind g ≡ 0 → g ≡ Double (value_double g)
-      by (Double x) e h = refl
-      by (Fault n) e h = absurd (fault_none z s i n e h)
+      by : (g : Result Float Refusal) → line_value z s i ≡ g → value_number z (due_at z i).kind g ≡ 0 → g ≡ Ok (value_double g)
+      by (Ok x) e h = refl
+      by (Err why) e h = let w : ⊥ = omega (arith, above_zero why, h) in absurd w
 
-  pub line_frame : (is_frame s at ≡ true) × (value_of (due_at z i) (frame_at s at) ≡ Double (line_double z s i))
+  pub line_frame : (is_frame s at ≡ true) × (value_of (due_at z i) (Ok (frame_at s at)) ≡ Ok (line_double z s i))
   unfolding line_value
-  line_frame = framed (λ (l : Line). value_of (due_at z i) l ≡ Double (line_double z s i)) s at (λ e. differ (cc)) (λ e. differ (cc)) value_double_lem
+  line_frame = framed (λ (l : Result Frame Refusal). value_of (due_at z i) l ≡ Ok (line_double z s i)) s at (λ e. differ (cc)) (λ e. differ (cc)) value_double_lem
 
   pub line_due : (is_due (due_at z i) (hex_at 2 s at) (hex_at 2 s (at + 2)) (hex_at 2 s (at + 4)) ≡ true) × (line_double z s i ≡ of_bits binary64 (hex_at 16 s (at + 6)))
   line_due = due_double (is_due (due_at z i) (hex_at 2 s at) (hex_at 2 s (at + 2)) (hex_at 2 s (at + 4))) (of_bits binary64 (hex_at 16 s (at + 6))) (line_double z s i) line_frame.1

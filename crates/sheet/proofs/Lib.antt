@@ -2,7 +2,6 @@
 pub mod Whole
 pub mod Fits
 pub mod Answer
-pub mod Through
 pub mod Image
 pub mod Entries
 pub mod ByKind

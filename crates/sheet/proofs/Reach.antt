@@ -12,9 +12,8 @@ use Rattle.image.specs.Order.{or_else}
 use Rattle.image.specs.declared.Sizes.{Sizes}
 use Rattle.line.specs.Line.{line_at}
 use Rattle.line.proofs.Laws.{line_take, end_take}
-use Rattle.frame.specs.declared.Head.{Head}
-use Rattle.frame.specs.declared.Head.TheVariants.{Sized, Unsized}
-use Rattle.frame.specs.declared.Value.{Value}
+use Rattle.std.specs.Prelude.{Float, Result, Ok, Err}
+use Rattle.refusal.specs.declared.Refusal.{Refusal}
 use Rattle.frame.specs.Frame.{converted_word, due_at, head_of, total, value_double, value_number, value_of, word_of}
 use Rattle.frame.proofs.Sized.{head_sound}
 use Rattle.frame.proofs.Laws.{total_high}
@@ -43,19 +42,19 @@ module _ (z : Sizes) (s : List ℕ) (m : ℕ) (h : 23 * (total z + 1) < m) where
   unfolding line_word
   words_take =
       ap (λ (l : List ℤ). size_words z ++ l)
-      (tab_cong (line_word z (take m s)) (line_word z s) (total z) (λ i l. ap (λ (v : Value). converted_word (word_of z (due_at z i).kind (value_double v))) (value_take i l)))
+      (tab_cong (line_word z (take m s)) (line_word z s) (total z) (λ i l. ap (λ (v : Result Float Refusal). converted_word (word_of z (due_at z i).kind (value_double v))) (value_take i l)))
 
 -- ---- the sheet
 head_take : (s : List ℕ) (m : ℕ) → 23 ≤ m → head_of (line_at (take m s) 0) ≡ head_of (line_at s 0)
 head_take s m h = ap head_of (line_take s m 0 h)
 
-by_head : (s : List ℕ) (m : ℕ) (h : Head) → reach_of h ≤ m → (head_number h (take m s) ≡ head_number h s) × (head_words h (take m s) ≡ head_words h s)
-by_head s m (Sized z) l = (number_take z s m (omega arith), words_take z s m (omega arith))
-by_head s m (Unsized n) l = (refl, refl)
+by_head : (s : List ℕ) (m : ℕ) (h : Result Sizes Refusal) → reach_of h ≤ m → (head_number h (take m s) ≡ head_number h s) × (head_words h (take m s) ≡ head_words h s)
+by_head s m (Ok z) l = (number_take z s m (omega arith), words_take z s m (omega arith))
+by_head s m (Err why) l = (refl, refl)
 
-reach_least : (h : Head) → 23 ≤ reach_of h
-reach_least (Sized z) = omega arith
-reach_least (Unsized n) = omega arith
+reach_least : (h : Result Sizes Refusal) → 23 ≤ reach_of h
+reach_least (Ok z) = omega arith
+reach_least (Err why) = omega arith
 
 module _ (s : List ℕ) (m : ℕ) (h : reach s ≤ m) where
   pub same_head : head_of (line_at (take m s) 0) ≡ head_of (line_at s 0)
@@ -64,7 +63,7 @@ module _ (s : List ℕ) (m : ℕ) (h : reach s ≤ m) where
 
   pub take_number : sheet_number (take m s) ≡ sheet_number s
   unfolding sheet_number reach
-  take_number = ap (λ (x : Head). head_number x (take m s)) same_head ∙ (by_head s m (head_of (line_at s 0)) h).0
+  take_number = ap (λ (x : Result Sizes Refusal). head_number x (take m s)) same_head ∙ (by_head s m (head_of (line_at s 0)) h).0
 
   take_words : sheet_words (take m s) ≡ sheet_words s
   unfolding sheet_words reach
@@ -93,9 +92,9 @@ pub reach_most : (s : List ℕ) → reach s ≤ drive_room
 unfolding reach
 reach_most s = by (head_of (line_at s 0)) refl
   where
-    by : (h : Head) → head_of (line_at s 0) ≡ h → reach_of h ≤ drive_room
-    by (Sized z) e = omega (arith, total_high z (head_sound (line_at s 0) z e))
-    by (Unsized n) e = omega arith
+    by : (h : Result Sizes Refusal) → head_of (line_at s 0) ≡ h → reach_of h ≤ drive_room
+    by (Ok z) e = omega (arith, total_high z (head_sound (line_at s 0) z e))
+    by (Err why) e = omega arith
 
 -- so that many bytes decide any sheet
 module _ (s : List ℕ) (m : ℕ) (h : drive_room ≤ m) where

@@ -1,5 +1,5 @@
 -- What the laws of a sheet state. Definitions only.
-use Rattle.std.specs.Prelude.{ℕ, ◌+◌, ◌*◌, ◌/◌, ◌%◌, ◌<◌, ◌≡◌, Bool, true, ◌||◌, List, eqb, ℤ, Float}
+use Rattle.std.specs.Prelude.{ℕ, ◌+◌, ◌*◌, ◌/◌, ◌%◌, ◌<◌, ◌≡◌, Bool, true, ◌||◌, List, eqb, ℤ, Float, Result, Ok, Err}
 use Rattle.std.specs.Float.{binary64}
 use Rattle.std.specs.Float.Ieee.{of_bits}
 use Rattle.word.specs.Word.{word_at}
@@ -12,8 +12,7 @@ use Rattle.image.specs.declared.Sizes.{Sizes}
 use Rattle.image.specs.Sizes.{body_count, command_count}
 use Rattle.image.specs.Layout.{lower_at, upper_at}
 use Rattle.line.specs.Line.{line_at}
-use Rattle.frame.specs.declared.Head.{Head}
-use Rattle.frame.specs.declared.Head.TheVariants.{Sized, Unsized}
+use Rattle.refusal.specs.declared.Refusal.{Refusal}
 use Rattle.frame.specs.Frame.{due_at, head_of, is_input_limit, is_table_entry, low_base, rounding_of, total}
 use Rattle.sheet.specs.Sheet.{sheet_image}
 
@@ -67,9 +66,9 @@ pub record OwnLimits (z : Sizes) (s : List ℕ) (k : ℕ) : Type 0 where
 -- ---- how far a sheet is read
 
 -- the bytes of line 01; with its sizes, those of the last line due and one more
-abbrev pub reach_of : Head → ℕ
-reach_of (Sized z) = 23 * (total z + 1) + 1
-reach_of (Unsized n) = 23
+abbrev pub reach_of : Result Sizes Refusal → ℕ
+reach_of (Ok z) = 23 * (total z + 1) + 1
+reach_of (Err why) = 23
 
 unfoldable pub reach : List ℕ → ℕ
 reach s = reach_of (head_of (line_at s 0))

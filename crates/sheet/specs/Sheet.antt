@@ -1,13 +1,12 @@
 -- Document 01, "The design sheet" and "Place of each check": the number of a sheet through its lines and end, and its image. Definitions only.
-use Rattle.std.specs.Prelude.{ℕ, zero, suc, ◌+◌, ◌*◌, cond, List, [], ◌∷◌, ◌++◌, length, leb, eqb, ℤ}
+use Rattle.std.specs.Prelude.{ℕ, zero, suc, ◌+◌, ◌*◌, cond, List, [], ◌∷◌, ◌++◌, length, leb, eqb, ℤ, Result, Ok, Err}
 use Rattle.word.specs.Word.{words_out}
 use Rattle.gradient.specs.Index.{tab}
 use Rattle.image.specs.Order.{check, first_fault, or_else}
 use Rattle.image.specs.declared.Sizes.{Sizes}
 use Rattle.line.specs.Line.{line_at}
-use Rattle.frame.specs.declared.Head.{Head}
-use Rattle.frame.specs.declared.Head.TheVariants.{Sized, Unsized}
-use Rattle.frame.specs.Frame.{head_of, total}
+use Rattle.refusal.specs.declared.Refusal.{Refusal}
+use Rattle.frame.specs.Frame.{head_of, head_fault, total}
 use Rattle.lines.specs.Lines.{line_fault, line_word, size_words}
 
 -- "the first fault decides": the first of f 0, f 1, .. f (n - 1) that is not 0, else what comes after them
@@ -27,15 +26,15 @@ lines_number z s = first (line_fault z s) (total z) (end_number z s)
 abbrev pub lines_words : Sizes → List ℕ → List ℤ
 lines_words z s = size_words z ++ tab (line_word z s) (total z)
 
--- document 01's number for each case of `Head`: the sizes go with that of the other lines and the end, a fault with its own
-abbrev pub head_number : Head → List ℕ → ℕ
-head_number (Sized z) s = lines_number z s
-head_number (Unsized n) s = n
+-- document 01's number of what line 01 gives: the sizes go with that of the other lines and the end, a refusal with its own
+abbrev pub head_number : Result Sizes Refusal → List ℕ → ℕ
+head_number (Ok z) s = lines_number z s
+head_number (Err why) s = head_fault (Err why)
 
 -- the words of each case; none without sizes
-abbrev pub head_words : Head → List ℕ → List ℤ
-head_words (Sized z) s = lines_words z s
-head_words (Unsized n) s = []
+abbrev pub head_words : Result Sizes Refusal → List ℕ → List ℤ
+head_words (Ok z) s = lines_words z s
+head_words (Err why) s = []
 
 -- the number of a sheet "through its lines and end": 1 to 5
 unfoldable pub sheet_number : List ℕ → ℕ
