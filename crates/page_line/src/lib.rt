@@ -16,6 +16,7 @@ pub enum Effect {
 }
 
 // What was done to x, where y is the double of its word. The comparison goes by value, so minus zero is kept.
+#[tactic(auto, unfolding(crate::specs::Effect::effect_of, crate::specs::Effect::is_kept))]
 pub fn effect_of(x: f64, y: f64) -> Effect
     ensures { result ≡ effect_of x y }
 {
@@ -34,6 +35,7 @@ fn plus_for_minus(x: f64) -> f64
 }
 
 // The two doubles and the mark are written, 35 bytes.
+#[tactic(auto, using(crate::proofs::Written::put_fields_lem))]
 fn put_fields(out: &mut [u8], at: usize, given: f64, kept: f64, mark: u8)
     requires { (at + 35 ≤ length out.old) × T (not (is_nan given)) × T (not (is_nan kept)) }
     ensures { out.new ≡ put_at out.old at (fields_text given kept mark) }
@@ -57,6 +59,7 @@ fn put_effect(out: &mut [u8], at: usize, e: Effect)
 }
 
 // The line of a design number is written, 44 bytes.
+#[tactic(auto, using(crate::proofs::Written::put_line_lem))]
 pub fn put_line(out: &mut [u8], at: usize, d: Due, e: Effect)
     requires { (at + 44 ≤ length out.old) × T (not (is_nan (given e))) × T (not (is_nan (kept e))) }
     ensures { out.new ≡ put_at out.old at (line_text d e) }
