@@ -11,20 +11,7 @@ pub fn is_word_file(file: &[u8], count: usize) -> bool
     ensures { result ≡ is_word_file count file.now }
 {
     let digits = 8 * count;
-    if file.len() != digits + 1 {
-        return false;
-    }
-    if file[digits] != 10 {
-        return false;
-    }
-    hexadecimal::are_hex(file, 0, digits)
-}
-
-// Zeros. As a call, they keep their literals out of the goals.
-pub fn blank_words() -> [u8; 64]
-    ensures { length result ≡ 64 }
-{
-    [0; 64]
+    file.len() == digits + 1 && file[digits] == b'\n' && hexadecimal::are_hex(file, 0, digits)
 }
 
 // The words of such a file, in front of the array.
@@ -32,11 +19,9 @@ pub fn file_words(file: &[u8], count: usize) -> [u8; 64]
     requires { (count ≤ 12) × (8 * count ≤ length file.now) }
     ensures { (length result ≡ 64) × (take (4 * count) result ≡ file_words count file.now) }
 {
-    let mut r = blank_words();
-    let mut i = 0;
-    while i < count {
-        word::put_nat(&mut r, 4 * i, hexadecimal::hex_at(file, 8 * i, 8));
-        i += 1;
+    let mut words = [0; 64];
+    for i in 0..count {
+        word::put_nat(&mut words, 4 * i, hexadecimal::hex_at(file, 8 * i, 8));
     }
-    r
+    words
 }
