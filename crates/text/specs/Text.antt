@@ -1,12 +1,9 @@
 -- Document 01, "The label program", with request 8: the lines that are printed. Definitions only.
-use Rattle.std.specs.Prelude.{ℕ, ◌+◌, ◌*◌, ◌^◌, ◌≤◌, ◌≡◌, cond, List, [], ◌∷◌, ◌++◌, eqb, ltb, length, take}
+use Rattle.std.specs.Prelude.{ℕ, ◌+◌, ◌*◌, ◌^◌, cond, List, [], ◌∷◌, ◌++◌, eqb, ltb}
 use Rattle.word.specs.Buffer.{joined}
 use Rattle.word.specs.Digits.{digits_be}
 use Rattle.word.specs.Word.{nat_at, pattern_at}
 use Rattle.hexadecimal.specs.Hex.{hex_digits}
-use Rattle.text.specs.declared.Text.{Text}
-
--- ---- the text
 
 -- "eight more digits", and "sixteen digits if eight don't suffice"
 unfoldable pub distance_digits : ℕ → ℕ
@@ -30,15 +27,3 @@ refusal number = 114 ∷ 101 ∷ 102 ∷ 117 ∷ 115 ∷ 101 ∷ 100 ∷ 32 ∷ 
 -- "if refused, it prints only the line" of the number
 abbrev pub printed : ℕ → List ℕ → List ℕ
 printed number text = cond (eqb number 0) text (refusal number)
-
--- ---- what the code holds
-
--- room for the longest label: 16 lines of 35 bytes
-abbrev pub text_room : ℕ
-text_room = 560
-
--- a text in front of an array
-pub record Holds (text : List ℕ) (t : Text) : Type 0 where
-  pub size : length t.bytes ≡ text_room
-  pub room : t.length ≤ text_room
-  pub is : take t.length t.bytes ≡ text

@@ -1,32 +1,66 @@
-// The lines that the label program prints, and the line of a refusal.
+// The lines that the programs print: those of a label, and the line of a refusal.
 #![tactic(auto)]
 
-ghost use Rattle.std.specs.Prelude.{◌≡◌, ◌+◌, ◌*◌, ◌≤◌, length};
+ghost use Rattle.std.specs.Prelude.{◌≡◌, ◌+◌, ◌*◌, ◌≤◌, length, take};
+ghost use Rattle.refusal.specs.Number.{number};
 ghost use Rattle.word.specs.Buffer.{put_at};
-ghost use Rattle.text.specs.Text.{distance_digits, line_of, lines, refusal, text_room, Holds};
+ghost use Rattle.text.specs.Text.{distance_digits, line_of, lines, refusal};
 
-// A text of at most 16 lines of 35 bytes, in front of the array.
+use refusal::Refusal;
+use std::marker::Model;
+
+// Room for the longest label: 16 lines of 35 bytes.
+pub const LABEL_ROOM: usize = 560;
+
+// A text of at most N bytes, in front of an array.
 #[derive(Drop)]
-pub struct Text {
-    pub bytes: [u8; 560],
-    pub length: usize,
+pub struct Text<const N: usize> {
+    bytes: [u8; N],
+    len: usize,
 }
 
-// Zeros. As a call, they keep their literals out of the goals.
-pub fn blank_text() -> [u8; 560]
-    ensures { length result ≡ text_room }
-{
-    [0; 560]
+impl<const N: usize> Model for Text<N> {
+    ghost use Rattle.std.specs.Prelude.{◌≤◌, List, ℕ, take};
+
+    ghost Value = { List ℕ };
+
+    ghost view = { λ t. take t.len t.bytes };
+
+    ghost invariant = { λ t. t.len ≤ N };
+}
+
+impl<const N: usize> Text<N> {
+    // The front of an array.
+    pub fn new(bytes: [u8; N], len: usize) -> Self
+        requires { len ≤ N }
+        ensures { result ≡ take len bytes.entry }
+    {
+        Text { bytes, len }
+    }
+
+    // The line of a refusal.
+    pub fn refused(why: Refusal) -> Self
+        requires { 11 ≤ N }
+        ensures { result ≡ refusal (number why) }
+    {
+        let mut bytes = [0; N];
+        put_refusal(&mut bytes, why);
+        Text { bytes, len: 11 }
+    }
+
+    pub fn as_bytes(&self) -> &[u8]
+        ensures { result.now ≡ self.now }
+    {
+        &self.bytes[..self.len]
+    }
 }
 
 // How many digits D takes, on every line the same.
+#[tactic(auto, unfolding(crate::specs::Text::distance_digits))]
 fn distance_digits(d: u64) -> usize
     ensures { (result ≡ distance_digits d) × (result ≤ 16) }
 {
-    if d < 4294967296 {
-        return 8;
-    }
-    16
+    if d < 4294967296 { 8 } else { 16 }
 }
 
 fn put_line(out: &mut [u8], at: usize, command: u64, bound: u64, digits: usize, d: u64)
@@ -42,50 +76,33 @@ fn put_line(out: &mut [u8], at: usize, command: u64, bound: u64, digits: usize, 
 }
 
 // The lines of an answer: n commands, then their bounds, then D.
-pub fn lines_of(answer: &[u8], n: usize) -> Text
+pub fn lines_of(answer: &[u8], n: usize) -> Text<LABEL_ROOM>
     requires { (n ≤ 16) × (length answer.now ≡ 8 * n + 8) }
-    ensures { Holds (lines n answer.now n) result }
+    ensures { result ≡ lines n answer.now n }
 {
     let d = word::pattern_at(answer, 8 * n);
     let digits = distance_digits(d);
     let size = 19 + digits;
-    let mut bytes = blank_text();
-    let mut k = 0;
-    while k < n {
+    let mut bytes = [0; LABEL_ROOM];
+    for k in 0..n {
         let command = word::nat_at(answer, 4 * k);
         let bound = word::nat_at(answer, 4 * (n + k));
         put_line(&mut bytes, size * k, command, bound, digits, d);
-        k += 1;
     }
     Text {
         bytes,
-        length: size * n,
+        len: size * n,
     }
 }
 
-// The line of a refusal, in front of a buffer.
-pub fn put_refusal(out: &mut [u8], number: u32)
+// The line of a refusal, in front of a buffer. No `write!`: it promises its bytes only where it answers Ok, which no writer promises.
+pub fn put_refusal(out: &mut [u8], why: Refusal)
     requires { 11 ≤ length out.old }
-    ensures { out.new ≡ put_at out.old 0 (refusal number) }
+    ensures { out.new ≡ put_at out.old 0 (refusal (number why)) }
 {
-    out[0] = b'r';
-    out[1] = b'e';
-    out[2] = b'f';
-    out[3] = b'u';
-    out[4] = b's';
-    out[5] = b'e';
-    out[6] = b'd';
-    out[7] = b' ';
+    let number = u32::from(why);
+    out[..8].copy_from_slice(b"refused ");
     out[8] = (48 + number / 10 % 10) as u8;
     out[9] = (48 + number % 10) as u8;
     out[10] = b'\n';
-}
-
-// The same as a text.
-pub fn refusal_of(number: u32) -> Text
-    ensures { Holds (refusal number) result }
-{
-    let mut bytes = blank_text();
-    put_refusal(&mut bytes, number);
-    Text { bytes, length: 11 }
 }

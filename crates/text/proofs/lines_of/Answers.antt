@@ -2,7 +2,7 @@
 use native.Mathlib.Omega.{arith}
 use native.Mathlib.Nat.{mul-le-mul}
 use native.Mathlib.Numerals.{add-one}
-use mathlib.Core.Path.{◌≡◌, sym, ap, subst, ◌∙◌}
+use mathlib.Core.Path.{◌≡◌, refl, ap, subst, ◌∙◌}
 use mathlib.Core.List.{List, ◌++◌}
 use Prim.Native.Nat.{ℕ, ◌+◌, ◌*◌, ◌≤◌}
 use lib.ListN.{take}
@@ -20,54 +20,15 @@ within digits k h l = let a : 19 + digits ≤ 35 = omega arith in omega (arith, 
 one_more : (digits k : ℕ) → (19 + digits) * k + (19 + digits) ≡ (19 + digits) * (k + 1)
 one_more digits k = omega arith
 
-pub overflow_mul-n : goal.overflow_mul-n
-overflow_mul-n c = omega arith
-
-pub pattern_at-d-requires : goal.pattern_at-d-requires
-pattern_at-d-requires c = omega arith
-
-pub distance_digits-digits-requires : goal.distance_digits-digits-requires
-distance_digits-digits-requires c = tt
-
-pub overflow_add-size : goal.overflow_add-size
-overflow_add-size c = omega (arith, c.distance_digits-digits.ensures.1)
-
-pub blank_text-bytes-requires : goal.blank_text-bytes-requires
-blank_text-bytes-requires c = tt
-
 pub loop-k-init : goal.loop-k-init
 unfolding joined lines
-loop-k-init c = (omega arith, (c.blank_text-bytes.ensures, ap (λ (j : ℕ). take j c.blank_text-bytes.result) (let e : (19 + c.distance_digits-digits.result) * 0 ≡ 0 = omega arith in e)))
-
-pub overflow_mul-k : goal.overflow_mul-k
-overflow_mul-k c = omega arith
-
-pub nat_at-command-requires : goal.nat_at-command-requires
-nat_at-command-requires c = omega arith
-
-pub overflow_add-n : goal.overflow_add-n
-overflow_add-n c = omega arith
-
-pub overflow_mul-n-in-loop-k : goal.overflow_mul-n-in-loop-k
-overflow_mul-n-in-loop-k c = omega arith
-
-pub nat_at-bound-requires : goal.nat_at-bound-requires
-nat_at-bound-requires c = omega arith
-
-pub slice_bounds-put_line-end : goal.slice_bounds-put_line-end
-slice_bounds-put_line-end c = sym c.loop-k.invariant.1.0
+loop-k-init c = let e : (19 + c.distance_digits-digits.result) * 0 ≡ 0 = omega arith in (refl, rw e refl)
 
 pub overflow_mul-size : goal.overflow_mul-size
 overflow_mul-size c = omega (arith, within c.distance_digits-digits.result c.loop-k.k c.distance_digits-digits.ensures.1 (omega arith))
 
 pub put_line-requires : goal.put_line-requires
 put_line-requires c = omega (arith, within c.distance_digits-digits.result (c.loop-k.k + 1) c.distance_digits-digits.ensures.1 (omega arith), one_more c.distance_digits-digits.result c.loop-k.k)
-
-pub overflow_add-k : goal.overflow_add-k
-overflow_add-k c = omega arith
-
-pub loop-k-smaller : goal.loop-k-smaller
-loop-k-smaller c = omega arith
 
 pub loop-k-preserved : goal.loop-k-preserved
 unfolding joined lines
@@ -81,14 +42,11 @@ loop-k-preserved c =
     let e : line_of c.nat_at-command.result c.nat_at-bound.result g.result c.pattern_at-d.result ≡ line_of x y (distance_digits D) D =
     cc (c.nat_at-command.ensures.0, c.nat_at-bound.ensures.0, g.ensures.0, c.pattern_at-d.ensures) in
     let size = length_line c.nat_at-command.result c.nat_at-bound.result g.result c.pattern_at-d.result in (
-      omega arith,
-      (
-        c.put_line.auto.out ∙ l.invariant.1.0,
-        ap (take ((19 + g.result) * (l.k + 1))) c.put_line.ensures
-            ∙ front_put l.bytes (lines a.n a.answer.now l.k) _ ((19 + g.result) * l.k) ((19 + g.result) * (l.k + 1)) l.invariant.1.1 (omega (arith, size, one_more g.result l.k)) (omega (arith, within g.result (l.k + 1) g.ensures.1 (omega arith)))
-            ∙ ap (λ (t : List ℕ). lines a.n a.answer.now l.k ++ t) e
-            ∙ rw (add-one l.k),
-      ),
+      c.put_line.auto.out ∙ l.invariant.0,
+      ap (take ((19 + g.result) * (l.k + 1))) c.put_line.ensures
+          ∙ front_put l.bytes (lines a.n a.answer.now l.k) _ ((19 + g.result) * l.k) ((19 + g.result) * (l.k + 1)) l.invariant.1 (omega (arith, size, one_more g.result l.k)) (omega (arith, within g.result (l.k + 1) g.ensures.1 (omega arith)))
+          ∙ ap (λ (t : List ℕ). lines a.n a.answer.now l.k ++ t) e
+          ∙ rw (add-one l.k),
     )
 
 pub overflow_mul-result : goal.overflow_mul-result
@@ -97,14 +55,12 @@ overflow_mul-result c =
     let n = c.args.n in
     omega (arith, within g.result n g.ensures.1 (omega arith))
 
+pub invariant_of-result : goal.invariant_of-result
+invariant_of-result c = within c.distance_digits-digits.result c.args.n c.distance_digits-digits.ensures.1 c.requires.0
+
 pub returns : goal.returns
 returns c =
     let a = c.args in
     let l = c.loop-k in
-    let g = c.distance_digits-digits in
     let e : l.k ≡ a.n = omega arith in
-    record {
-      size = l.invariant.1.0;
-      room = omega (arith, within g.result a.n g.ensures.1 (omega arith));
-      is = subst (λ (k : ℕ). take ((19 + g.result) * k) l.bytes ≡ lines a.n a.answer.now k) e l.invariant.1.1;
-    }
+    subst (λ (k : ℕ). take ((19 + c.distance_digits-digits.result) * k) l.bytes ≡ lines a.n a.answer.now k) e l.invariant.1

@@ -1,27 +1,11 @@
-use native.Mathlib.Omega.{arith}
 use mathlib.Core.Path.{ap, ◌∙◌}
 use mathlib.Core.List.{List}
 use Prim.Native.Nat.{ℕ, ◌+◌}
-use lib.ListN.{set, length-set}
+use lib.ListN.{set}
 use Rattle.word.specs.Buffer.{put_at}
 use Rattle.hexadecimal.specs.Hex.{hex_digits}
 use Rattle.text.proofs.Written as written
 use Rattle.text.proofs.put_line.Goals as goal
-
-pub put_hex-requires-2 : goal.put_hex-requires-2
-put_hex-requires-2 c = simp length-set (omega (arith, c.put_hex.auto.out))
-
-pub bounds-out-at-2 : goal.bounds-out-at-2
-bounds-out-at-2 c = omega (arith, simp length-set at c.put_hex-2.auto.out, c.put_hex.auto.out)
-
-pub put_hex-requires-3 : goal.put_hex-requires-3
-put_hex-requires-3 c = simp length-set (omega (arith, simp length-set at c.put_hex-2.auto.out, c.put_hex.auto.out))
-
-pub bounds-out-at-3 : goal.bounds-out-at-3
-bounds-out-at-3 c = omega (arith, simp length-set at c.put_hex-3.auto.out, simp length-set at c.put_hex-2.auto.out, c.put_hex.auto.out)
-
-pub shape_of-out : goal.shape_of-out
-shape_of-out c = simp length-set ((simp length-set at c.put_hex-3.auto.out) ∙ (simp length-set at c.put_hex-2.auto.out) ∙ c.put_hex.auto.out)
 
 pub returns : goal.returns
 returns c =

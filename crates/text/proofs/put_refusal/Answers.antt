@@ -1,41 +1,27 @@
 use native.Mathlib.Omega.{arith}
-use lib.ListN.{length-set}
-use lib.Seq.{sets-eq}
+use mathlib.Core.Path.{◌≡◌, refl, ap, ◌∙◌}
+use mathlib.Core.List.{List, [], ◌∷◌, ◌++◌}
+use Prim.Native.Nat.{ℕ, ◌+◌, ◌/◌, ◌%◌, ◌≤◌}
+use lib.ListN.{length, set}
+use Rattle.refusal.specs.Number.{number}
+use Rattle.word.specs.Ascii.{ascii}
 use Rattle.word.specs.Buffer.{put_at}
 use Rattle.word.specs.Digits.{digits_be}
+use Rattle.word.proofs.Buffer.{set_next}
 use Rattle.text.specs.Text.{refusal}
 use Rattle.text.proofs.put_refusal.Goals as goal
 
-pub bounds-out-1 : goal.bounds-out-1
-bounds-out-1 c = simp length-set (omega arith)
-
-pub bounds-out-2 : goal.bounds-out-2
-bounds-out-2 c = simp length-set (omega arith)
-
-pub bounds-out-3 : goal.bounds-out-3
-bounds-out-3 c = simp length-set (omega arith)
-
-pub bounds-out-4 : goal.bounds-out-4
-bounds-out-4 c = simp length-set (omega arith)
-
-pub bounds-out-5 : goal.bounds-out-5
-bounds-out-5 c = simp length-set (omega arith)
-
-pub bounds-out-6 : goal.bounds-out-6
-bounds-out-6 c = simp length-set (omega arith)
-
-pub bounds-out-7 : goal.bounds-out-7
-bounds-out-7 c = simp length-set (omega arith)
-
-pub bounds-out-8 : goal.bounds-out-8
-bounds-out-8 c = simp length-set (omega arith)
-
-pub bounds-out-9 : goal.bounds-out-9
-bounds-out-9 c = simp length-set (omega arith)
-
-pub bounds-out-10 : goal.bounds-out-10
-bounds-out-10 c = simp length-set (omega arith)
+-- "refused ", two digits, byte 10
+by_steps : (s : List ℕ) (n : ℕ) → 11 ≤ length s → set (set (set (put_at s 0 (ascii "refused ")) 8 (48 + n / 10 % 10)) 9 (48 + n % 10)) 10 10 ≡ put_at s 0 (refusal n)
+unfolding refusal digits_be
+by_steps s n h =
+    let t = ascii "refused " in
+    let a = 48 + n / 10 % 10 in
+    let b = 48 + n % 10 in
+    ap (λ (o : List ℕ). set (set o 9 b) 10 10) (set_next s 0 t 8 a refl (omega arith))
+    ∙ ap (λ (o : List ℕ). set o 10 10) (set_next s 0 (t ++ a ∷ []) 9 b refl (omega arith))
+    ∙ set_next s 0 ((t ++ a ∷ []) ++ b ∷ []) 10 10 refl (omega arith)
 
 pub returns : goal.returns
-unfolding put_at refusal digits_be
-returns c = sets-eq (refusal c.args.number) c.args.out.now 0 c.requires
+unfolding put_at
+returns c = rw (c.copy_from_slice.ensures.after, c.from-number.ensures) (by_steps c.args.out.now (number c.args.why) c.requires)
