@@ -1,5 +1,7 @@
 -- Document 01, "The label program", with request 8: the lines that are printed. Definitions only.
-use Rattle.std.specs.Prelude.{ℕ, ◌+◌, ◌*◌, ◌^◌, cond, List, [], ◌∷◌, ◌++◌, eqb, ltb}
+use Rattle.std.specs.Prelude.{ℕ, ◌+◌, ◌*◌, ◌^◌, cond, List, [], ◌∷◌, ◌++◌, eqb, ltb, Result, Ok, Err}
+use Rattle.refusal.specs.Number.{number}
+use Rattle.refusal.specs.declared.Refusal.{Refusal}
 use Rattle.word.specs.Buffer.{joined}
 use Rattle.word.specs.Digits.{digits_be}
 use Rattle.word.specs.Word.{nat_at, pattern_at}
@@ -27,3 +29,8 @@ refusal number = 114 ∷ 101 ∷ 102 ∷ 117 ∷ 115 ∷ 101 ∷ 100 ∷ 32 ∷ 
 -- "if refused, it prints only the line" of the number
 abbrev pub printed : ℕ → List ℕ → List ℕ
 printed number text = cond (eqb number 0) text (refusal number)
+
+-- what is printed of a text or of why there is none
+abbrev pub written : Result (List ℕ) Refusal → List ℕ
+written (Ok text) = text
+written (Err why) = refusal (number why)

@@ -4,7 +4,7 @@
 ghost use Rattle.std.specs.Prelude.{◌≡◌, ◌+◌, ◌*◌, ◌≤◌, length, take};
 ghost use Rattle.refusal.specs.Number.{number};
 ghost use Rattle.word.specs.Buffer.{put_at};
-ghost use Rattle.text.specs.Text.{distance_digits, line_of, lines, refusal};
+ghost use Rattle.text.specs.Text.{distance_digits, line_of, lines, refusal, written};
 
 use refusal::Refusal;
 use std::marker::Model;
@@ -46,6 +46,17 @@ impl<const N: usize> Text<N> {
         let mut bytes = [0; N];
         put_refusal(&mut bytes, why);
         Text { bytes, len: 11 }
+    }
+
+    // A text, or the line of why there is none.
+    pub fn written(text: Result<Self, Refusal>) -> Self
+        requires { 11 ≤ N }
+        ensures { result ≡ written text.entry }
+    {
+        match text {
+            Ok(text) => text,
+            Err(why) => Self::refused(why),
+        }
     }
 
     pub fn as_bytes(&self) -> &[u8]
