@@ -1,122 +1,121 @@
-// The checks of a call, 13 to 16, and the numbers of a solve and of a cold start.
+// The checks of a call, 13 to 16, and those of a solve and of a cold start.
 #![tactic(auto)]
 
-ghost use Rattle.std.specs.Prelude.{◌≡◌, ◌*◌, length};
+ghost use Rattle.std.specs.Prelude.{◌≡◌, ◌*◌, length, IfOk};
+ghost use Rattle.refusal.specs.Number.{number_of};
 ghost use Rattle.gradient.specs.Demand.{start_within};
-ghost use Rattle.image.specs.Sizes.{Whole, command_count, input_count};
+ghost use Rattle.image.specs.Sizes.{command_count, input_count};
 ghost use Rattle.image.specs.Layout.{sizes_of, problem_at};
-ghost use Rattle.image.specs.Order.{first_fault};
+ghost use Rattle.image.specs.Order.{first_fault, buffer_number};
 ghost use Rattle.interface.specs.Calls.{values_within, input_passes, start_of, target_and_start, call_number, solvable_number, solve_number, cold_number};
 
-use image::{Input, Sizes};
-use magnitudes::size;
+use image::{Image, Input};
+use refusal::Refusal;
 
 // Whether each value of an input is within its limit.
-fn values_pass(image: &[u8], z: Sizes, v: Input, values: &[u8]) -> bool
-    requires { Whole z image.now × (length values.now ≡ 4 * input_count v z) }
-    ensures { result ≡ values_within v z image.now values.now }
+fn values_pass(image: &Image, v: Input, values: &[u8]) -> bool
+    requires { length values.now ≡ 4 * input_count v image.now.sizes }
+    ensures { result ≡ values_within v image.now.sizes image.now.bytes.now values.now }
 {
-    let count = image::input_count(z, v);
-    let mut j = 0;
-    while j < count {
-        if size(image::limit_at(image, z, v, j)) < size(word::word_at(values, 4 * j)) {
-            return false;
-        }
-        j += 1;
-    }
-    true
+    (0..image.sizes.input_count(v)).all(|j| {
+        word::word_at(values, 4 * j).unsigned_abs() <= image.limit_at(v, j).unsigned_abs()
+    })
 }
 
 // Check 13 of a state, 16 of a target.
-pub fn input_passes(image: &[u8], z: Sizes, v: Input, values: &[u8]) -> bool
-    requires { Whole z image.now }
-    ensures { result ≡ input_passes v z image.now values.now }
+pub fn input_passes(image: &Image, v: Input, values: &[u8]) -> bool
+    ensures { result ≡ input_passes v image.now.sizes image.now.bytes.now values.now }
 {
-    if values.len() != 4 * image::input_count(z, v) {
-        return false;
-    }
-    values_pass(image, z, v, values)
+    values.len() == 4 * image.sizes.input_count(v) && values_pass(image, v, values)
 }
 
 // Whether each command of the start is within its limits.
-fn start_passes(image: &[u8], z: Sizes, start: &[u8]) -> bool
-    requires { Whole z image.now × (length start.now ≡ 4 * command_count z) }
-    ensures { result ≡ start_within (problem_at z image.now) (start_of z start.now) }
+fn start_passes(image: &Image, start: &[u8]) -> bool
+    requires { length start.now ≡ 4 * command_count image.now.sizes }
+    ensures { result ≡ start_within (problem_at image.now.sizes image.now.bytes.now) (start_of image.now.sizes start.now) }
 {
-    let n = z.nu * z.steps;
-    let mut k = 0;
-    while k < n {
-        if !row_tests::is_inside(image, z, k, word::word_at(start, 4 * k)) {
-            return false;
-        }
-        k += 1;
-    }
-    true
+    (0..image.sizes.command_count()).all(|k| row_tests::is_inside(
+        image,
+        k,
+        word::word_at(start, 4 * k),
+    ))
 }
 
 // Checks 16 and 14, in this order.
-pub fn rest_number(image: &[u8], target: &[u8], start: &[u8]) -> u32
-    requires { Whole (sizes_of image.now) image.now }
-    ensures { result ≡ first_fault (target_and_start image.now target.now start.now) }
+#[tactic(auto, unfolding(image::specs::Layout::problem_of))]
+pub fn check_rest(image: &Image, target: &[u8], start: &[u8]) -> Result<(), Refusal>
+    requires { image.now.sizes ≡ sizes_of image.now.bytes.now }
+    ensures { number_of result ≡ first_fault (target_and_start image.now.bytes.now target.now start.now) }
 {
-    let z = image::sizes_of(image);
-    let n = z.nu * z.steps;
-    if !input_passes(image, z, Input::Target, target) {
-        return 16;
+    if !input_passes(image, Input::Target, target) {
+        return Err(Refusal::Target);
     }
-    if start.len() != 4 * n {
-        return 14;
+    if start.len() != 4 * image.sizes.command_count() || !start_passes(image, start) {
+        return Err(Refusal::Start);
     }
-    if start_passes(image, z, start) { 0 } else { 14 }
+    Ok(())
 }
 
 // Check 13, and these.
-fn call_number(image: &[u8], state: &[u8], target: &[u8], start: &[u8]) -> u32
-    requires { Whole (sizes_of image.now) image.now }
-    ensures { result ≡ call_number image.now state.now target.now start.now }
+#[tactic(auto, unfolding(interface::specs::Calls::call_number))]
+fn check_call(image: &Image, state: &[u8], target: &[u8], start: &[u8]) -> Result<(), Refusal>
+    requires { image.now.sizes ≡ sizes_of image.now.bytes.now }
+    ensures { number_of result ≡ call_number image.now.bytes.now state.now target.now start.now }
 {
-    let z = image::sizes_of(image);
-    if !input_passes(image, z, Input::State, state) {
-        return 13;
+    if !input_passes(image, Input::State, state) {
+        return Err(Refusal::State);
     }
-    rest_number(image, target, start)
+    check_rest(image, target, start)
 }
 
-// The number of a solve but for its buffer.
-pub fn solvable_number(image: &[u8], state: &[u8], target: &[u8], start: &[u8]) -> u32
-    ensures { result ≡ solvable_number image.now state.now target.now start.now }
+// Check 15, of a buffer of `room` bytes for an answer of `length` bytes.
+#[tactic(auto, using(image::proofs::Ordering::buffer_fits, image::proofs::Ordering::buffer_refused))]
+pub fn check_buffer(length: usize, room: usize) -> Result<(), Refusal>
+    ensures { number_of result ≡ buffer_number length room }
 {
-    let number = tables::image_number(image);
-    if number != 0 {
-        return number;
-    }
-    call_number(image, state, target, start)
-}
-
-// The number of a solve, of an answer of `room` bytes.
-pub fn solve_number(image: &[u8], state: &[u8], target: &[u8], start: &[u8], room: usize) -> u32
-    ensures { result ≡ solve_number image.now state.now target.now start.now room }
-{
-    let number = solvable_number(image, state, target, start);
-    if number != 0 {
-        return number;
-    }
-    let z = image::sizes_of(image);
-    if room == 8 * (z.nu * z.steps) + 8 {
-        0
+    if room == length {
+        Ok(())
     } else {
-        15
+        Err(Refusal::Buffer)
     }
 }
 
-// The number of a cold start, of an answer of `room` bytes.
-pub fn cold_number(image: &[u8], room: usize) -> u32
-    ensures { result ≡ cold_number image.now room }
+// The checks of a solve but for its buffer: the image that the bytes are.
+#[tactic(auto, using(image::proofs::Ordering::handed_on, image::proofs::Ordering::went_on), unfolding(interface::specs::Calls::solvable_number))]
+pub fn check_solvable<'a>(
+    bytes: &'a [u8],
+    state: &[u8],
+    target: &[u8],
+    start: &[u8],
+) -> Result<Image<'a>, Refusal>
+    ensures number { number_of result ≡ solvable_number bytes.now state.now target.now start.now }
+    ensures image { IfOk result (λ i. (i.bytes.now ≡ bytes.now) × (i.sizes ≡ sizes_of bytes.now)) }
 {
-    let number = tables::image_number(image);
-    if number != 0 {
-        return number;
-    }
-    let z = image::sizes_of(image);
-    if room == 4 * (z.nu * z.steps) { 0 } else { 15 }
+    let image = tables::check_image(bytes)?;
+    check_call(&image, state, target, start)?;
+    Ok(image)
+}
+
+// The checks of a solve, of an answer of `room` bytes.
+#[tactic(auto, using(image::proofs::Ordering::handed_on, image::proofs::Ordering::went_on), unfolding(interface::specs::Calls::solve_number))]
+pub fn check_solve(
+    bytes: &[u8],
+    state: &[u8],
+    target: &[u8],
+    start: &[u8],
+    room: usize,
+) -> Result<(), Refusal>
+    ensures { number_of result ≡ solve_number bytes.now state.now target.now start.now room }
+{
+    let image = check_solvable(bytes, state, target, start)?;
+    check_buffer(8 * image.sizes.command_count() + 8, room)
+}
+
+// The checks of a cold start, of an answer of `room` bytes.
+#[tactic(auto, using(image::proofs::Ordering::handed_on, image::proofs::Ordering::went_on), unfolding(interface::specs::Calls::cold_number))]
+pub fn check_cold_start(bytes: &[u8], room: usize) -> Result<(), Refusal>
+    ensures { number_of result ≡ cold_number bytes.now room }
+{
+    let image = tables::check_image(bytes)?;
+    check_buffer(4 * image.sizes.command_count(), room)
 }
