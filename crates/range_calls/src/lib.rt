@@ -1,100 +1,91 @@
-// Check 13 of ranges, and the number of a solve with ranges.
+// Check 13 of ranges, and the checks of a solve with ranges.
 #![tactic(auto)]
 
-ghost use Rattle.std.specs.Prelude.{◌≡◌, ◌*◌, length};
+ghost use Rattle.std.specs.Prelude.{◌≡◌, ◌*◌, length, IfOk};
 ghost use Rattle.std.specs.Int.{w32};
 ghost use Rattle.std.proofs.Common.{SFits};
-ghost use Rattle.image.specs.Sizes.{Whole};
+ghost use Rattle.refusal.specs.Number.{number_of};
 ghost use Rattle.image.specs.Layout.{sizes_of};
 ghost use Rattle.ranges.specs.Interval.{interval};
 ghost use Rattle.ranges.specs.Claim.{interval_within};
 ghost use Rattle.range_interface.specs.Calls.{ranges_within, ranges_pass, range_call_number, range_solvable_number, range_solve_number};
 
-use image::{Input, Sizes};
-use magnitudes::size;
+use image::{Image, Input};
+use refusal::Refusal;
 
 // Whether a low is not above its high, and neither is beyond the limit.
-#[tactic(auto, using(crate::proofs::Order::above, crate::proofs::Order::beyond))]
+#[tactic(auto, unfolding(ranges::specs::Claim::interval_within))]
 fn range_within(low: i64, high: i64, limit: u64) -> bool
     requires { SFits w32 low × SFits w32 high }
     ensures { result ≡ interval_within (interval low high) limit }
 {
-    if high < low {
-        return false;
-    }
-    if limit < size(low) {
-        return false;
-    }
-    size(high) <= limit
+    low <= high && low.unsigned_abs() <= limit && high.unsigned_abs() <= limit
 }
 
 // Whether each range is so: the lows are followed by the highs.
-fn ranges_within(image: &[u8], z: Sizes, ranges: &[u8]) -> bool
-    requires { Whole z image.now × (length ranges.now ≡ 8 * z.nx) }
-    ensures { result ≡ ranges_within z image.now ranges.now }
+fn ranges_within(image: &Image, ranges: &[u8]) -> bool
+    requires { length ranges.now ≡ 8 * image.now.sizes.nx }
+    ensures { result ≡ ranges_within image.now.sizes image.now.bytes.now ranges.now }
 {
-    let count = z.nx;
-    let mut j = 0;
-    while j < count {
+    let count = image.sizes.nx;
+    (0..count).all(|j| {
         let low = word::word_at(ranges, 4 * j);
         let high = word::word_at(ranges, 4 * count + 4 * j);
-        let limit = size(image::limit_at(image, z, Input::State, j));
-        if !range_within(low, high, limit) {
-            return false;
-        }
-        j += 1;
-    }
-    true
+        range_within(low, high, image.limit_at(Input::State, j).unsigned_abs())
+    })
 }
 
 // Check 13 of ranges.
-fn ranges_pass(image: &[u8], z: Sizes, ranges: &[u8]) -> bool
-    requires { Whole z image.now }
-    ensures { result ≡ ranges_pass z image.now ranges.now }
+fn ranges_pass(image: &Image, ranges: &[u8]) -> bool
+    ensures { result ≡ ranges_pass image.now.sizes image.now.bytes.now ranges.now }
 {
-    if ranges.len() != 8 * z.nx {
-        return false;
-    }
-    ranges_within(image, z, ranges)
+    ranges.len() == 8 * image.sizes.nx && ranges_within(image, ranges)
 }
 
 // Checks 13, 16 and 14, in this order.
-fn range_call_number(image: &[u8], ranges: &[u8], target: &[u8], start: &[u8]) -> u32
-    requires { Whole (sizes_of image.now) image.now }
-    ensures { result ≡ range_call_number image.now ranges.now target.now start.now }
+#[tactic(auto, unfolding(range_interface::specs::Calls::range_call_number))]
+fn check_range_call(
+    image: &Image,
+    ranges: &[u8],
+    target: &[u8],
+    start: &[u8],
+) -> Result<(), Refusal>
+    requires { image.now.sizes ≡ sizes_of image.now.bytes.now }
+    ensures { number_of result ≡ range_call_number image.now.bytes.now ranges.now target.now start.now }
 {
-    let z = image::sizes_of(image);
-    if !ranges_pass(image, z, ranges) {
-        return 13;
+    if !ranges_pass(image, ranges) {
+        return Err(Refusal::State);
     }
-    calls::rest_number(image, target, start)
+    calls::check_rest(image, target, start)
 }
 
-// The number of a solve with ranges but for its buffer.
-fn range_solvable_number(image: &[u8], ranges: &[u8], target: &[u8], start: &[u8]) -> u32
-    ensures { result ≡ range_solvable_number image.now ranges.now target.now start.now }
+// The checks of a solve with ranges but for its buffer: the image that the bytes are.
+#[tactic(auto, using(image::proofs::Ordering::handed_on, image::proofs::Ordering::went_on), unfolding(range_interface::specs::Calls::range_solvable_number))]
+fn check_range_solvable<'a>(
+    bytes: &'a [u8],
+    ranges: &[u8],
+    target: &[u8],
+    start: &[u8],
+) -> Result<Image<'a>, Refusal>
+    ensures number { number_of result ≡ range_solvable_number bytes.now ranges.now target.now start.now }
+    ensures image { IfOk result (λ i. (i.bytes.now ≡ bytes.now) × (i.sizes ≡ sizes_of bytes.now)) }
 {
-    let number = tables::image_number(image);
-    if number != 0 {
-        return number;
-    }
-    range_call_number(image, ranges, target, start)
+    let image = tables::check_image(bytes)?;
+    check_range_call(&image, ranges, target, start)?;
+    Ok(image)
 }
 
-// The number of a solve with ranges, of an answer of `room` bytes.
-pub fn range_solve_number(
-    image: &[u8],
+// The checks of a solve with ranges, of an answer of `room` bytes.
+#[tactic(auto, using(image::proofs::Ordering::handed_on, image::proofs::Ordering::went_on), unfolding(range_interface::specs::Calls::range_solve_number))]
+pub fn check_range_solve(
+    bytes: &[u8],
     ranges: &[u8],
     target: &[u8],
     start: &[u8],
     room: usize,
-) -> u32
-    ensures { result ≡ range_solve_number image.now ranges.now target.now start.now room }
+) -> Result<(), Refusal>
+    ensures { number_of result ≡ range_solve_number bytes.now ranges.now target.now start.now room }
 {
-    let number = range_solvable_number(image, ranges, target, start);
-    if number != 0 {
-        return number;
-    }
-    let z = image::sizes_of(image);
-    if room == 8 * (z.nu * z.steps) { 0 } else { 15 }
+    let image = check_range_solvable(bytes, ranges, target, start)?;
+    calls::check_buffer(8 * image.sizes.command_count(), room)
 }
