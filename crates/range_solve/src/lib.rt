@@ -8,6 +8,7 @@ ghost use Rattle.range_interface.specs.Accepted.{RangeSolvable};
 ghost use Rattle.solve.specs.Reached.{MatrixOf};
 ghost use Rattle.range_solve.specs.Reached.{CarriedOf};
 
+use image::Image;
 use range_sums::Ends;
 
 // Both after a number of iterations: the lowest commands take the highest linear terms, and the new y of an end takes the old commands of the opposite end. Once an iteration changes neither end, none after it does.
@@ -23,10 +24,10 @@ fn carried_after(
     requires { RangeSolvable image.now ranges.now target.now start.now × MatrixOf image.now m.now }
     ensures { CarriedOf image.now ranges.now target.now start.now count result }
 {
-    let s = image::sizes_of(image);
-    let h = range_loading::linear_ends(image, ranges, target, s);
-    let t = loading::terms_with(image, s, h.high);
-    let u = loading::terms_with(image, s, h.low);
+    let whole = Image::of(image);
+    let h = range_loading::linear_ends(&whole, ranges, target);
+    let t = loading::terms_with(&whole, h.high);
+    let u = loading::terms_with(&whole, h.low);
     let magnitudes = matrix::magnitudes_of(m, t.n);
     let first = array::words_of(start, t.n);
     let mut z = Ends {
@@ -55,11 +56,11 @@ pub fn range_solve(image: &[u8], ranges: &[u8], target: &[u8], start: &[u8], ans
     requires { RangeSolvable image.now ranges.now target.now start.now × (length answer.old ≡ range_answer_length (sizes_of image.now)) }
     ensures { answer.new ≡ range_answer image.now ranges.now target.now start.now }
 {
-    let s = image::sizes_of(image);
-    let count = s.sweeps;
-    let m = matrix::matrix(image, s);
+    let whole = Image::of(image);
+    let count = whole.sizes.sweeps;
+    let m = matrix::matrix(&whole);
     let r = carried_after(image, ranges, target, start, &m, count);
-    let n = s.command_count();
+    let n = whole.sizes.command_count();
     word::put_words(&mut answer[..4 * n], &r.low[..n]);
     word::put_words(&mut answer[4 * n..], &r.high[..n]);
 }

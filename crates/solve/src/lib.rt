@@ -8,6 +8,8 @@ ghost use Rattle.interface.specs.Calls.{answer_length, solve_answer};
 ghost use Rattle.interface.specs.Accepted.{Accepted, Solvable, Dominant};
 ghost use Rattle.solve.specs.Reached.{MatrixOf, CommandsOf, BoundsOf};
 
+use image::Image;
+
 // The commands after a number of iterations. Once one changes nothing, none after it does.
 fn commands_after(
     image: &[u8],
@@ -20,8 +22,8 @@ fn commands_after(
     requires { Solvable image.now state.now target.now start.now × MatrixOf image.now m }
     ensures { CommandsOf image.now state.now target.now start.now count result }
 {
-    let s = image::sizes_of(image);
-    let t = loading::command_terms(image, state, target, s);
+    let whole = Image::of(image);
+    let t = loading::command_terms(&whole, state, target);
     let mut new = [0; 16];
     let mut z = array::words_of(start, t.n);
     let mut y = z;
@@ -40,8 +42,8 @@ fn bounds_after(image: &[u8], m: [[i64; 16]; 16], count: usize) -> [u64; 16]
     requires { Accepted image.now × MatrixOf image.now m }
     ensures { BoundsOf image.now count result }
 {
-    let s = image::sizes_of(image);
-    let t = loading::bound_terms(image, s);
+    let whole = Image::of(image);
+    let t = loading::bound_terms(&whole);
     let magnitudes = matrix::magnitudes_of(&m, t.n);
     let mut e = [0; 16];
     let mut q = [0; 16];
@@ -80,10 +82,10 @@ pub fn solve(image: &[u8], state: &[u8], target: &[u8], start: &[u8], answer: &m
     requires { (Solvable image.now state.now target.now start.now × Dominant image.now) × (length answer.old ≡ answer_length (sizes_of image.now)) }
     ensures { answer.new ≡ solve_answer image.now state.now target.now start.now }
 {
-    let s = image::sizes_of(image);
-    let count = s.sweeps;
-    let n = s.command_count();
-    let m = matrix::matrix(image, s);
+    let whole = Image::of(image);
+    let count = whole.sizes.sweeps;
+    let n = whole.sizes.command_count();
+    let m = matrix::matrix(&whole);
     let z = commands_after(image, state, target, start, m, count);
     let e = bounds_after(image, m, count);
     let d = distance::distance(image, state, target, &m, &z);

@@ -1,5 +1,5 @@
 use native.Mathlib.Omega.{arith}
-use mathlib.Core.Path.{sym, ap, ◌∙◌}
+use mathlib.Core.Path.{ap, ◌∙◌}
 use mathlib.Core.List.{List, ◌++◌}
 use Prim.Native.Nat.{ℕ, ◌-◌}
 use lib.ListN.{length, drop, length-drop}
@@ -7,17 +7,7 @@ use lib.Seq.{length-take-le}
 use Rattle.word.specs.Word.{pattern_bytes}
 use Rattle.word.proofs.Buffer.{put_behind}
 use Rattle.word.proofs.Words.{length_bytes}
-use borrow.Author.Rules.{rules}
 use Rattle.solve.proofs.put_answer.Goals as goal
-
-pub slice_bounds-put_commands_and_bounds-end-2 : goal.slice_bounds-put_commands_and_bounds-end-2
-slice_bounds-put_commands_and_bounds-end-2 c = let a = c.args.out.now in sym (length-take-le (length a - 8) a (omega arith))
-
-pub put_commands_and_bounds-requires : goal.put_commands_and_bounds-requires
-put_commands_and_bounds-requires c =
-    let a = c in
-    let out = a.args.out.now in
-    (omega (arith, length-take-le (length out - 8) out (omega arith), a.requires.0), a.requires.1)
 
 pub returns : goal.returns
 returns c =

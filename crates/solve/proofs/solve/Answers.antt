@@ -1,7 +1,7 @@
 use native.Mathlib.Omega.{arith}
 use mathlib.Core.Path.{◌≡◌, sym, ap, subst, ◌∙◌}
 use mathlib.Core.List.{List}
-use Prim.Native.Nat.{ℕ, ◌*◌, ◌≤◌}
+use Prim.Native.Nat.{ℕ, ◌≤◌}
 use lib.ListN.{length, take}
 use lib.Seq.{length-take-le}
 use lib.IntN.{ℤ, pos}
@@ -13,7 +13,6 @@ use Rattle.image.specs.Sizes.{command_count}
 use Rattle.image.specs.Layout.{sizes_of, entry_at, problem_of}
 use Rattle.interface.specs.Tables.{margin_of}
 use Rattle.interface.specs.Calls.{inputs_of, commands_after, bounds_after, distance_after, solve_answer}
-use Rattle.interface.proofs.Accept.{whole_of}
 use Rattle.interface.proofs.Demand.{all_claims}
 use Rattle.interface.proofs.Guaranteed.{z_words}
 use Rattle.array.specs.Arrays.{Tabled}
@@ -21,33 +20,32 @@ use Rattle.solve.specs.Reached.{MatrixOf, CommandsOf, BoundsOf}
 use Rattle.solve.proofs.Answers.{few, commands_are, bounds_are}
 use Rattle.optimum.specs.Optimum.{optimum_bound}
 use Rattle.distance.specs.Tables.{Measurable}
-use borrow.Author.Rules.{rules}
-use Rattle.solve.proofs.solve.Goals.{After-bounds_after-e, After-distance-d, After-matrix-m, After-struct_known-1, Start}
+use Rattle.solve.proofs.solve.Goals.{After-bounds_after-e, After-distance-d, After-matrix-m, After-command_count-n, Start}
 use Rattle.solve.proofs.solve.Goals as goal
 
 -- n, and that it is the image's
-module _ (c : After-struct_known-1) where
+module _ (c : After-command_count-n) where
   abbrev start : Start
-  start = (goal.at.After-struct_known-1 c).Start
+  start = (goal.at.After-command_count-n c).Start
 
   abbrev n : ℕ
-  n = c.sizes_of-s.result.nu * c.sizes_of-s.result.steps
+  n = c.command_count-n.result
 
   n-is : n ≡ command_count (sizes_of start.args.image.now)
-  n-is = ap (λ (z : Sizes). command_count z) c.sizes_of-s.ensures
+  n-is = c.command_count-n.ensures ∙ ap (λ (z : Sizes). command_count z) c.of-whole.ensures.1
 
   few-n : n ≤ 16
   few-n = few start.requires.0.0.accepted 0 n n-is
 
 -- M is the image's
 module _ (c : After-matrix-m) where
-  matrix-of : MatrixOf (start (goal.at.After-matrix-m c).After-struct_known-1).args.image.now c.matrix-m.result
-  matrix-of = subst (λ (z : Sizes). Tabled (pos 0) (command_count z) (entry_at z (start (goal.at.After-matrix-m c).After-struct_known-1).args.image.now) c.matrix-m.result) c.sizes_of-s.ensures c.matrix-m.ensures
+  matrix-of : MatrixOf (start (goal.at.After-matrix-m c).After-command_count-n).args.image.now c.matrix-m.result
+  matrix-of = subst (λ (z : Sizes). Tabled (pos 0) (command_count z) (entry_at z (start (goal.at.After-matrix-m c).After-command_count-n).args.image.now) c.matrix-m.result) c.of-whole.ensures.1 (rw c.of-whole.ensures.0 at c.matrix-m.ensures)
 
 -- the n commands and the n bounds that the arrays hold
 module _ (c : After-bounds_after-e) where
-  abbrev known : After-struct_known-1
-  known = (goal.at.After-bounds_after-e c).After-struct_known-1
+  abbrev known : After-command_count-n
+  known = (goal.at.After-bounds_after-e c).After-command_count-n
 
   abbrev a : Start
   a = start known
@@ -61,8 +59,8 @@ module _ (c : After-bounds_after-e) where
   abbrev sweeps : ℕ
   sweeps = (sizes_of a.args.image.now).sweeps
 
-  sweeps-are : known.before.sizes_of-s.result.sweeps ≡ sweeps
-  sweeps-are = ap (λ (z : Sizes). z.sweeps) known.before.sizes_of-s.ensures
+  sweeps-are : c.of-whole.result.sizes.sweeps ≡ sweeps
+  sweeps-are = ap (λ (z : Sizes). z.sweeps) c.of-whole.ensures.1
 
   commands-of : CommandsOf a.args.image.now a.args.state.now a.args.target.now a.args.start.now sweeps z
   commands-of = subst (λ (k : ℕ). CommandsOf a.args.image.now a.args.state.now a.args.target.now a.args.start.now k z) sweeps-are c.commands_after-z.ensures
@@ -108,36 +106,8 @@ distance_is c =
     let b = c in
     c.distance-d.ensures ∙ ap (optimum_bound (problem_of (a (goal.at.After-distance-d c).After-bounds_after-e).args.image.now) (margin_of (a (goal.at.After-distance-d c).After-bounds_after-e).args.image.now) (inputs_of (sizes_of (a (goal.at.After-distance-d c).After-bounds_after-e).args.image.now) (a (goal.at.After-distance-d c).After-bounds_after-e).args.state.now (a (goal.at.After-distance-d c).After-bounds_after-e).args.target.now)) (own (goal.at.After-distance-d c).After-bounds_after-e)
 
-pub overflow_mul-n : goal.overflow_mul-n
-overflow_mul-n c = omega (arith, few-n c)
-
-pub matrix-m-requires : goal.matrix-m-requires
-matrix-m-requires c = whole_of c.sizes_of-s.ensures (start c).requires.0.0.accepted.whole
-
-pub commands_after-z-requires : goal.commands_after-z-requires
-commands_after-z-requires c = ((start (goal.at.commands_after-z-requires c).After-struct_known-1).requires.0.0, matrix-of c)
-
-pub bounds_after-e-requires : goal.bounds_after-e-requires
-bounds_after-e-requires c = ((start (goal.at.bounds_after-e-requires c).After-struct_known-1).requires.0.0.accepted, matrix-of (goal.at.bounds_after-e-requires c).After-matrix-m)
-
 pub distance-d-requires : goal.distance-d-requires
 distance-d-requires c = (measurable (goal.at.distance-d-requires c).After-bounds_after-e, (a (goal.at.distance-d-requires c).After-bounds_after-e).requires.0.1)
-
-pub slice_bounds-z-end : goal.slice_bounds-z-end
-slice_bounds-z-end c =
-    let b = c in
-    omega (arith, (commands-of (goal.at.slice_bounds-z-end c).After-bounds_after-e).sized, few-n (known (goal.at.slice_bounds-z-end c).After-bounds_after-e))
-
-pub slice_bounds-put_answer-end : goal.slice_bounds-put_answer-end
-slice_bounds-put_answer-end c = sym (z-taken (goal.at.slice_bounds-put_answer-end c).After-bounds_after-e)
-
-pub slice_bounds-e-end : goal.slice_bounds-e-end
-slice_bounds-e-end c =
-    let b = c in
-    omega (arith, (bounds_of (goal.at.slice_bounds-e-end c).After-bounds_after-e).sized, few-n (known (goal.at.slice_bounds-e-end c).After-bounds_after-e))
-
-pub slice_bounds-put_answer-end-2 : goal.slice_bounds-put_answer-end-2
-slice_bounds-put_answer-end-2 c = sym (e-taken (goal.at.slice_bounds-put_answer-end-2 c).After-bounds_after-e)
 
 pub put_answer-requires : goal.put_answer-requires
 put_answer-requires c =
