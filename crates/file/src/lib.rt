@@ -12,6 +12,7 @@ use std::rt::Files;
 use std::{fs, str};
 
 // Room for drive.hex, state.hex and target.hex: `Enough` of label_text and of page_text says why no more has to be read.
+// Functions, and no literals in the programs: only a contract ties a length to its definition.
 const DRIVE_ROOM: usize = 12927;
 
 const STATE_ROOM: usize = 98;
@@ -42,6 +43,7 @@ fn read_full<F: Read>(input: &mut F, buffer: &mut [u8]) -> usize
     ensures bytes { Consumes (F.remaining input.old) (F.remaining input.new) (take result buffer.new) }
 {
     let mut done = 0;
+    // A read may give less than was asked for, so the number of turns isn't known.
     while done < buffer.len() {
         match input.read(&mut buffer[done..]) {
             Ok(0) | Err(_) => break,
