@@ -3,7 +3,7 @@
 
 ghost use Rattle.std.specs.Prelude.{◌≡◌, ℕ, ℤ, ◌*◌, ◌^◌, ◌≤◌, ◌<◌, pos, nat_abs};
 ghost use Rattle.dominance.specs.Others.{others_in, Answers};
-ghost use Rattle.image.specs.Sizes.{Whole, command_count};
+ghost use Rattle.image.specs.Sizes.{command_count};
 ghost use Rattle.image.specs.Layout.{cost_at};
 ghost use Rattle.interface.specs.Tables.{margin_at, total_at, symmetry_test};
 

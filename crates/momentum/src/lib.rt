@@ -2,7 +2,6 @@
 #![tactic(auto)]
 
 ghost use Rattle.std.specs.Prelude.{◌≡◌, ◌^◌, ◌≤◌, nat_abs, ◌*ℤ◌};
-ghost use Rattle.image.specs.Sizes.{Whole};
 ghost use Rattle.interface.specs.Tables.{least_margin, largest_total, momentum_range, momentum_ratio};
 ghost use Rattle.momentum.specs.Ready.{MomentumReady};
 
