@@ -1,9 +1,8 @@
 -- An array that a loop fills from the front. Assumes nothing.
-use mathlib.Core.Path.{◌≡◌, refl, sym, ap, ◌∙◌}
+use mathlib.Core.Path.{◌≡◌, sym, ap, ◌∙◌}
 use mathlib.Core.Bool.{Bool, true}
 use mathlib.Core.List.{List}
 use Prim.Native.Nat.{ℕ, ◌+◌, ◌≤◌, ◌<◌}
-use native.Mathlib.Nat.{not-suc-le-zero}
 use native.Mathlib.Omega.{arith}
 use lib.ListN.{length, set, length-set, get_or}
 use lib.Seq.{get_or-set_other, set-get_or, ext_get_or}
@@ -14,32 +13,10 @@ use Rattle.array.specs.Arrays.{Filled}
 pub filled_more : {A : Type 0} (d : A) (f : ℕ → A) {i : ℕ} {l : List A} (v : A) → i < 16 → Filled d i f l → v ≡ f i → Filled d (i + 1) f (set l i v)
 filled_more d f {i} {l} v h s e = record { sized = length-set l i v ∙ s.sized; each = store_more (λ (k : ℕ) x. x ≡ f k) l i v d (omega (arith, s.sized)) s.each e }
 
--- of the n elements that are to hold P, the first i do
-pub record Filling {A : Type 0} (d : A) (P : ℕ → A → Type 0) (n i : ℕ) (l : List A) : Type 0 where
-  pub below : i ≤ n
-  pub sized : length l ≡ 16
-  pub each : (k : ℕ) → k < i → P k (get_or l k d)
-
-module _ {A : Type 0} (d : A) (P : ℕ → A → Type 0) where
-  pub none : (n : ℕ) (l : List A) → length l ≡ 16 → Filling d P n 0 l
-  none n l e = record { below = omega arith; sized = e; each = λ k h. absurd (not-suc-le-zero h) }
-
-  pub more : {n i : ℕ} {l : List A} (v : A) → n ≤ 16 → i < n → Filling d P n i l → P i v → Filling d P n (i + 1) (set l i v)
-  more {n} {i} {l} v few h s e = record { below = omega arith; sized = length-set l i v ∙ s.sized; each = store_more P l i v d (omega (arith, s.sized)) s.each e }
-
-  pub all : {n i : ℕ} {l : List A} → n ≤ i → Filling d P n i l → (k : ℕ) → k < n → P k (get_or l k d)
-  all {n} {i} h s k l = s.each k (omega (arith, s.below))
-
-pub full : {A : Type 0} (d : A) (f : ℕ → A) {n i : ℕ} {l : List A} → n ≤ i → Filling d (λ (k : ℕ) (x : A). x ≡ f k) n i l → Filled d n f l
-full d f h s = record { sized = s.sized; each = all d (λ (k : ℕ) x. x ≡ f k) h s }
-
 -- an array that a loop fills in place of what it held: from i on it is as it was
 pub record Replacing {A : Type 0} (d : A) (f : ℕ → A) (i : ℕ) (old l : List A) : Type 0 where
   pub front : Filled d i f l
   pub rest : (k : ℕ) → i ≤ k → get_or l k d ≡ get_or old k d
-
-pub replaced_none : {A : Type 0} (d : A) (f : ℕ → A) (l : List A) → length l ≡ 16 → Replacing d f 0 l l
-replaced_none d f l e = record { front = record { sized = e; each = λ k h. absurd (not-suc-le-zero h) }; rest = λ k h. refl }
 
 pub replaced_more : {A : Type 0} (d : A) (f : ℕ → A) {i : ℕ} {old l : List A} (v : A) → i < 16 → Replacing d f i old l → v ≡ f i → Replacing d f (i + 1) old (set l i v)
 replaced_more d f {i} {old} {l} v h s e = record {

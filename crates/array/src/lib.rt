@@ -1,4 +1,4 @@
-// Arrays of 16 elements, of which the first n count: made of zeros, filled with words, written as bytes.
+// Arrays of 16 elements, of which the first n count: filled with words, written as bytes; limits as arrays.
 #![tactic(auto)]
 
 ghost use Rattle.std.specs.Prelude.{◌≡◌, map, ◌*◌, ◌≤◌, length, pos};
@@ -10,31 +10,6 @@ ghost use Rattle.array.specs.Arrays.{Filled, WordsTo};
 pub struct Limits {
     pub lower: [i64; 16],
     pub upper: [i64; 16],
-}
-
-// Zeros. As calls, they keep their literals out of the goals.
-pub fn blank() -> [i64; 16]
-    ensures { length result ≡ 16 }
-{
-    [0; 16]
-}
-
-pub fn blank_errors() -> [u64; 16]
-    ensures { Filled 0 16 (λ i. 0) result }
-{
-    [0; 16]
-}
-
-pub fn blank_table() -> [[i64; 16]; 16]
-    ensures { length result ≡ 16 }
-{
-    [[0; 16]; 16]
-}
-
-pub fn blank_magnitudes() -> [[u64; 16]; 16]
-    ensures { length result ≡ 16 }
-{
-    [[0; 16]; 16]
 }
 
 // The first n words of a part of the image, of the state or of the start.
@@ -54,9 +29,7 @@ pub fn put_bounds(out: &mut [u8], bounds: &[u64])
     requires { length out.old ≡ 4 * length bounds.now }
     ensures { out.new ≡ words_out (map pos bounds.now) }
 {
-    let mut i = 0;
-    while i < bounds.len() {
-        word::put_nat(out, 4 * i, bounds[i]);
-        i += 1;
+    for (i, bound) in bounds.iter().enumerate() {
+        word::put_nat(out, 4 * i, *bound);
     }
 }
