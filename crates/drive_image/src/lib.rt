@@ -2,23 +2,21 @@
 #![tactic(auto)]
 
 ghost use Rattle.std.specs.Prelude.{◌≡◌, cond, eqb, length};
+ghost use Rattle.refusal.specs.Number.{number_of};
 ghost use Rattle.gradient.specs.Index.{all_to};
 ghost use Rattle.drive.specs.Layout.{drive_length, held_heads};
 ghost use Rattle.drive.specs.Calls.{imaged, idle_at, new_number};
 
-use drive::{COUNT_PLACE, MOST_HEADS};
+use drive::MOST_HEADS;
+use refusal::Refusal;
 
 // How many heads the drive has, and no more than there are bytes for.
 fn held_heads(drive: &[u8]) -> usize
     requires { length drive.now ≡ drive_length }
     ensures { result ≡ held_heads drive.now }
 {
-    let heads = word::nat_at(drive, COUNT_PLACE) as usize;
-    if heads < MOST_HEADS {
-        heads
-    } else {
-        MOST_HEADS
-    }
+    let heads = drive_parts::held_count(drive) as usize;
+    heads.min(MOST_HEADS)
 }
 
 // Whether no head has a waiting answer.
@@ -26,36 +24,29 @@ fn all_idle(drive: &[u8]) -> bool
     requires { length drive.now ≡ drive_length }
     ensures { result ≡ all_to (idle_at drive.now) (held_heads drive.now) }
 {
-    let heads = held_heads(drive);
-    let mut k = 0;
-    while k < heads {
-        if word::nat_at(drive, drive::waiting_place(k)) != 0 {
-            return false;
-        }
-        k += 1;
-    }
-    true
+    (0..held_heads(drive)).all(|k| drive_parts::is_idle(drive, k))
 }
 
-// The number of the image, 15 for the drive's length, 19.
-fn new_number(drive: &[u8], image: &[u8]) -> u32
-    ensures { result ≡ new_number drive.now image.now }
+// The checks of the image, 15 for the drive's length, 19.
+#[tactic(auto, using(drive::proofs::Accept::imageable, image::proofs::Ordering::handed_on, image::proofs::Ordering::went_on), unfolding(drive::specs::Calls::new_number))]
+fn check_new(drive: &[u8], image: &[u8]) -> Result<(), Refusal>
+    ensures { number_of result ≡ new_number drive.now image.now }
 {
-    let number = drive_make::imaged_number(image, drive.len());
-    if number != 0 {
-        return number;
+    drive_make::check_imaged(image, drive.len())?;
+    if all_idle(drive) {
+        Ok(())
+    } else {
+        Err(Refusal::Waiting)
     }
-    if all_idle(drive) { 0 } else { 19 }
 }
 
 // Replaces the image for every head, and sets their starts to zero.
-pub fn new_image(drive: &mut [u8], image: &[u8]) -> u32
-    ensures number { result ≡ new_number drive.old image.now }
-    ensures drive { drive.new ≡ cond (eqb result 0) (imaged drive.old image.now) drive.old }
+#[tactic(auto, using(drive::proofs::Accept::renewable, drive::proofs::AllHeads::image_fits))]
+pub fn new_image(drive: &mut [u8], image: &[u8]) -> Result<(), Refusal>
+    ensures number { number_of result ≡ new_number drive.old image.now }
+    ensures drive { drive.new ≡ cond (eqb (number_of result) 0) (imaged drive.old image.now) drive.old }
 {
-    let number = new_number(drive, image);
-    if number == 0 {
-        drive_make::put_image(image, drive);
-    }
-    number
+    check_new(drive, image)?;
+    drive_make::put_image(image, drive);
+    Ok(())
 }
