@@ -1,82 +1,35 @@
 -- Each way out is one law of Call.antt. Assumes nothing.
-use mathlib.Core.Path.{◌≡◌, refl, sym, ◌∙◌}
-use mathlib.Core.List.{List}
-use Prim.Native.Nat.{ℕ, ◌*◌}
-use lib.IntN.{ℤ}
-use native.Mathlib.Omega.{arith}
-use lib.ListN.{length, take}
-use borrow.Author.Rules.{rules}
+use Rattle.std.proofs.Common.{arith, refl, ◌∙◌, length}
+use Rattle.std.proofs.lemmas.Result.{err_from_is_err_and}
+use Rattle.refusal.specs.Number.{number}
+use Rattle.refusal.proofs.Numbers.{above_zero}
 use Rattle.sheet.specs.Reading.{Answered}
 use Rattle.sheet.specs.Sheet.{sheet_number, sheet_words}
-use Rattle.sheet.proofs.Answer.{read_fit, read_image, read_long, room_for}
-use Rattle.intake.proofs.Call.{accepted_call, read_lines, refused_call, refused_room, unwritten}
-use Rattle.intake.proofs.intake.Goals.{After-read_design-t, Else-image-count, Else-number-ne0}
+use Rattle.sheet.proofs.Answer.{read_fit, read_image, read_long}
+use Rattle.intake.proofs.Call.{accepted_call, read_lines, refused_call, refused_room}
+use Rattle.intake.proofs.intake.Goals.{In_ok-count}
 use Rattle.intake.proofs.intake.Goals as goal
 
 -- the design passed
-module _ (d : Else-number-ne0) where
-  abbrev rd : After-read_design-t
-  rd = (goal.at.Else-number-ne0 d).After-read_design-t
+passed : (c : In_ok-count) → Answered (sheet_number c.args.sheet.now) (sheet_words c.args.sheet.now) 0 c.in_ok-count.count c.read_design.new.words
+passed c = read_lines c.args.sheet.now 0 c.in_ok-count.count c.read_design.new.words c.in_ok-count.ensures refl
 
-  abbrev sheet : List ℕ
-  sheet = rd.before.before.before.before.before.args.sheet.now
+pub returns-in_err-count-clause-number : goal.returns-in_err-count-clause-number
+returns-in_err-count-clause-number c =
+    let p = err_from_is_err_and c.from_residual.result c.from_residual.ensures.1 in
+    let why = c.in_err-count.field-0.0 in
+    rw (p.1, p.2) (refused_call c.args.sheet.now (number why) 0 c.read_design.new.words c.in_err-count.ensures (length c.args.image.now) (λ n. let w : ⊥ = omega (arith, above_zero why, n) in w))
 
-  abbrev number : ℕ
-  number = rd.read_design-t.result.number
-
-  abbrev count : ℕ
-  count = rd.read_design-t.result.count
-
-  abbrev words : List ℤ
-  words = rd.read_design-t.new.words
-
-  zero : number ≡ 0
-  zero = d.if-number-ne0.false
-
-  passed : Answered (sheet_number sheet) (sheet_words sheet) number count words
-  passed = read_lines sheet number count words rd.read_design-t.ensures zero
-
-  long : length (take count words) ≡ count
-  long = read_long sheet number count words passed zero
-
--- and the buffer has the image's length
-module _ (d : Else-image-count) where
-  abbrev design : Else-number-ne0
-  design = (goal.at.Else-image-count d).Else-number-ne0
-
-  exact : length (rd design).before.before.before.before.before.args.image.now ≡ 4 * count design
-  exact = d.if-image-count.false
-
-pub returns-then-number-ne0 : goal.returns-then-number-ne0
-returns-then-number-ne0 c =
-    let s = c.args in
-    record {
-      number = refused_call s.sheet.now _ _ _ c.read_design-t.ensures (length s.image.now) c.if-number-ne0.true;
-      bytes = unwritten _ _ _ c.if-number-ne0.true;
-    }
-
-pub returns-then-image-count : goal.returns-then-image-count
-returns-then-image-count c =
-    let d = c in
-    record { number = refused_room (sheet (goal.at.returns-then-image-count c).Else-number-ne0) _ _ _ (rd (goal.at.returns-then-image-count c).Else-number-ne0).read_design-t.ensures (zero (goal.at.returns-then-image-count c).Else-number-ne0) _ c.if-image-count.true; bytes = refl }
-
-pub slice_bounds-words-end : goal.slice_bounds-words-end
-slice_bounds-words-end c = let d = design (goal.at.slice_bounds-words-end c).Else-image-count in room_for (sheet d) _ _ _ (passed d) (zero d)
-
-pub slice_bounds-put_words-end : goal.slice_bounds-put_words-end
-slice_bounds-put_words-end c = sym (long (design (goal.at.slice_bounds-put_words-end c).Else-image-count))
+pub returns-then-image-count-clause-number : goal.returns-then-image-count-clause-number
+returns-then-image-count-clause-number c = refused_room c.args.sheet.now 0 c.in_ok-count.count c.read_design.new.words c.in_ok-count.ensures refl _ c.if-image-count.true
 
 pub put_words-requires : goal.put_words-requires
 put_words-requires c =
-    let e = c in
-    let d = design (goal.at.put_words-requires c).Else-image-count in
-    (omega (arith, exact (goal.at.put_words-requires c).Else-image-count, long d), read_fit (sheet d) _ _ _ (passed d) (zero d))
+    let a = passed (goal.at.put_words-requires c).In_ok-count in
+    (omega (arith, read_long c.args.sheet.now 0 c.in_ok-count.count c.read_design.new.words a refl), read_fit c.args.sheet.now 0 c.in_ok-count.count c.read_design.new.words a refl)
 
-pub returns : goal.returns
-returns c =
-    let e = c in
-    let d = design (goal.at.returns c).Else-image-count in
-    record {
-      number = accepted_call (sheet d) _ _ _ (rd d).read_design-t.ensures (zero d) _ (exact (goal.at.returns c).Else-image-count);
-      bytes = c.put_words.ensures ∙ read_image (sheet d) _ _ _ (passed d) (zero d);
-    }
+pub returns-clause-number : goal.returns-clause-number
+returns-clause-number c = accepted_call c.args.sheet.now 0 c.in_ok-count.count c.read_design.new.words c.in_ok-count.ensures refl _ c.if-image-count.false
+
+pub returns-clause-bytes : goal.returns-clause-bytes
+returns-clause-bytes c = c.put_words.ensures ∙ read_image c.args.sheet.now 0 c.in_ok-count.count c.read_design.new.words (passed (goal.at.returns-clause-bytes c).In_ok-count) refl

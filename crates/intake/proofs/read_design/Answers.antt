@@ -1,56 +1,34 @@
 -- Each way out is one law of Call.antt. Assumes nothing.
-use mathlib.Core.Path.{◌≡◌, sym}
-use mathlib.Core.List.{List}
-use Prim.Native.Nat.{ℕ, ◌*◌}
-use lib.IntN.{ℤ}
-use native.Mathlib.Omega.{arith}
-use lib.ListN.{length, length-take, take}
-use borrow.Author.Rules.{rules}
+use Rattle.std.proofs.Common.{◌≡◌, arith, refl}
+use Rattle.std.proofs.lemmas.Result.{err_from_is_err_and}
+use Rattle.std.proofs.lemmas.Grind.{common_steps}
+use Rattle.refusal.specs.Number.{number}
+use Rattle.refusal.proofs.Numbers.{above_zero}
 use Rattle.sheet.proofs.Answer.{read_long}
 use Rattle.intake.proofs.Call.{image_words, read_tables, refused_lines}
-use Rattle.intake.proofs.read_design.Goals.{After-buffer-1, After-read_sheet-t}
 use Rattle.intake.proofs.read_design.Goals as goal
 
--- the lines and the end passed
-module _ (d : After-buffer-1) where
-  abbrev rs : After-read_sheet-t
-  rs = (goal.at.After-buffer-1 d).After-read_sheet-t
+pub returns-in_err-count : goal.returns-in_err-count
+returns-in_err-count c =
+    let p = err_from_is_err_and c.from_residual.result c.from_residual.ensures.1 in
+    let why = c.in_err-count.field-0.0 in
+    rw (p.1, p.2) (refused_lines c.args.sheet.now (number why) 0 c.read_sheet.new.words c.in_err-count.ensures (λ n. let w : ⊥ = omega (arith, above_zero why, n) in w))
 
-  abbrev sheet : List ℕ
-  sheet = rs.before.before.before.args.sheet.now
+pub check_own_tables-requires : goal.check_own_tables-requires
+check_own_tables-requires c =
+    let s = c.args.sheet.now in
+    let a = c.in_ok-count.ensures in
+    let k = read_long s 0 c.in_ok-count.count c.read_sheet.new.words a refl in
+    let h = a.count_high in
+    (image_words s 0 c.in_ok-count.count c.read_sheet.new.words a refl, grind (arith, common_steps, k))
 
-  abbrev count : ℕ
-  count = rs.read_sheet-t.result.count
-
-  abbrev words : List ℤ
-  words = rs.read_sheet-t.new.words
-
-  zero : rs.read_sheet-t.result.number ≡ 0
-  zero = d.if-t-ne0.false
-
-  long : length (take count words) ≡ count
-  long = read_long sheet _ count words rs.read_sheet-t.ensures zero
-
-  short : length (take (4 * count) d.blank_image-buffer.result) ≡ 4 * count
-  short = omega (arith, length-take (4 * count) d.blank_image-buffer.result, rs.read_sheet-t.ensures.count_high, d.blank_image-buffer.ensures)
-
-pub returns-then-t-ne0 : goal.returns-then-t-ne0
-returns-then-t-ne0 c =
-    let r = c in
-    refused_lines r.args.sheet.now _ _ _ r.read_sheet-t.ensures c.if-t-ne0.true
-
-pub slice_bounds-own_tables-end : goal.slice_bounds-own_tables-end
-slice_bounds-own_tables-end c = sym (short c)
-
-pub slice_bounds-own_tables-end-2 : goal.slice_bounds-own_tables-end-2
-slice_bounds-own_tables-end-2 c = sym (long c)
-
-pub own_tables-number-requires : goal.own_tables-number-requires
-own_tables-number-requires c =
-    let d = c in
-    (image_words (sheet c) _ _ _ (rs c).read_sheet-t.ensures (zero c), omega (arith, short c, long c))
+pub returns-in_err-check_own_tables : goal.returns-in_err-check_own_tables
+returns-in_err-check_own_tables c =
+    let p = err_from_is_err_and c.from_residual-in_err-check_own_tables.result c.from_residual-in_err-check_own_tables.ensures.1 in
+    let why = c.in_err-check_own_tables.field-0.0 in
+    let r = read_tables c.args.sheet.now 0 c.in_ok-count.count c.read_sheet.new.words c.in_ok-count.ensures refl (number why) c.in_err-check_own_tables.ensures in
+    let n : number why ≡ 0 → ⊥ = λ n. let w : ⊥ = omega (arith, above_zero why, n) in w in
+    rw (p.1, p.2) (record { number_is = r.number_is; words_are = λ e. absurd (n e); count_is = λ e. absurd (n e); count_high = omega arith })
 
 pub returns : goal.returns
-returns c =
-    let d = c in
-    read_tables (sheet (goal.at.returns c).After-buffer-1) _ _ _ (rs (goal.at.returns c).After-buffer-1).read_sheet-t.ensures (zero (goal.at.returns c).After-buffer-1) _ c.own_tables-number.ensures
+returns c = read_tables c.args.sheet.now 0 c.in_ok-count.count c.read_sheet.new.words c.in_ok-count.ensures refl 0 c.in_ok-check_own_tables.ensures
