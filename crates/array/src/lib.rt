@@ -24,7 +24,8 @@ pub fn words_of(s: &[u8], n: usize) -> [i64; 16]
     r
 }
 
-// The bounds are written, four bytes each without a sign.
+// The bounds are written, four bytes each without a sign. word::put_words does so for signed words: a trait over both would put a map into what
+// each of its callers promises.
 pub fn put_bounds(out: &mut [u8], bounds: &[u64])
     requires { length out.old ≡ 4 * length bounds.now }
     ensures { out.new ≡ words_out (map pos bounds.now) }

@@ -40,7 +40,7 @@ fn keep(drive: &mut [u8], k: usize, answer: &[u8])
 {
     let place = drive::answer_place(k);
     let end = place + answer.len();
-    drive[place..end].copy_from_slice(answer);
+    drive_parts::copy(answer, &mut drive[place..end]);
     word::put_nat(drive, drive::waiting_place(k), 1);
 }
 

@@ -37,7 +37,7 @@ fn issue(drive: &[u8], k: usize, commands: &mut [u8])
 {
     let answer = held_answer(drive, k);
     let length = commands.len();
-    commands.copy_from_slice(&answer[..length]);
+    drive_parts::copy(&answer[..length], commands);
 }
 
 // Words are written as the head's start.

@@ -27,7 +27,7 @@ pub fn put_image(image: &[u8], drive: &mut [u8])
     drive[LENGTH_PLACE..COUNT_PLACE].fill(0);
     let length = image.len();
     word::put_nat(drive, LENGTH_PLACE, length as u64);
-    drive[IMAGE_PLACE..IMAGE_PLACE + length].copy_from_slice(image);
+    drive_parts::copy(image, &mut drive[IMAGE_PLACE..IMAGE_PLACE + length]);
 }
 
 // 3 for the number of heads, then the checks of the image and of the drive's length.

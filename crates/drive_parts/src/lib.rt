@@ -65,6 +65,16 @@ pub fn held_bytes(drive: &[u8]) -> &[u8]
     &drive[IMAGE_PLACE..end]
 }
 
+// The bytes of one buffer, written to another of the same length. std's copy_from_slice binds memmove, which a firmware need not supply.
+pub fn copy(from: &[u8], to: &mut [u8])
+    requires { length to.old ≡ length from.now }
+    ensures { to.new ≡ from.now }
+{
+    for (i, byte) in from.iter().enumerate() {
+        to[i] = *byte;
+    }
+}
+
 // Check 3 of a number of heads.
 pub fn check_count(heads: u64) -> Result<(), Refusal>
     ensures { number_of result ≡ count_number heads }

@@ -15,5 +15,5 @@ returns c =
     let room : length (take count_place d) ≡ count_place = length-take-le count_place d (omega arith) in
     let zeros : c.fill.new.self ≡ replicate count_place 0 = c.fill.ensures.after (λ y h. h) ∙ ap (λ (n : ℕ). replicate n 0) room in
     let cleared = put_lent d length_place count_place c.fill.new.self (replicate count_place 0) zeros (sym (length-replicate {A = ℕ} count_place 0)) in
-    put_lent c.put_nat.new.out image_place (image_place + length i - image_place) c.copy_from_slice.new.self i c.copy_from_slice.ensures.after (omega arith)
+    put_lent c.put_nat.new.out image_place (image_place + length i - image_place) c.copy.new.to i c.copy.ensures (omega arith)
     ∙ ap (λ (x : List ℕ). put_at x image_place i) (c.put_nat.ensures ∙ ap (λ (x : List ℕ). put_at x length_place (bytes_of (length i))) cleared)
