@@ -49,7 +49,7 @@ pub fn range_sum(image: &Image, y: &[u64; 16], i: usize, cap: u64) -> u64
 
 // What an input adds to the sum of B of row i, capped.
 pub fn gain_sum(image: &Image, v: Input, i: usize, cap: u64) -> u64
-    requires { ((i < command_count image.now.sizes)) × (cap ≤ 2 ^ 52) }
+    requires { (i < command_count image.now.sizes) × (cap ≤ 2 ^ 52) }
     ensures { result ≡ min (sum_n (gain_term v image.now.sizes image.now.bytes.now i) (input_count v image.now.sizes)) cap }
 {
     let row = image.gain_row(v, i);
