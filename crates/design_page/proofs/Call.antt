@@ -9,8 +9,8 @@ use Rattle.image.specs.declared.Sizes.{Sizes}
 use Rattle.image.specs.Order.{buffer_number}
 use Rattle.image.proofs.Ordering.{buffer_fits, buffer_refused}
 use Rattle.line.specs.Line.{line_at}
-use Rattle.frame.specs.declared.Head.{Head}
-use Rattle.frame.specs.declared.Head.TheVariants.{Sized, Unsized}
+use Rattle.std.specs.Prelude.{Result, Ok, Err}
+use Rattle.refusal.specs.declared.Refusal.{Refusal}
 use Rattle.frame.specs.Frame.{head_of, total}
 use Rattle.lines.specs.Lines.{line_fault}
 use Rattle.sheet.specs.Reading.{Answered}
@@ -23,16 +23,16 @@ use Rattle.intake.proofs.Call.{read_lines, refused_design, then_buffer}
 use Rattle.design_page.specs.Page.{design_count, head_count, head_page, lines_page, page_number, sheet_page}
 
 -- ---- what line 01 gives
-module _ (s : List ℕ) (z : Sizes) (h : head_of (line_at s 0) ≡ Sized z) where
+module _ (s : List ℕ) (z : Sizes) (h : head_of (line_at s 0) ≡ Ok z) where
   pub count_sized : design_count s ≡ total z
   unfolding design_count
   count_sized = ap head_count h
 
   pub page_sized : sheet_page s ≡ lines_page z s
   unfolding sheet_page
-  page_sized = ap (λ (x : Head). head_page x s) h
+  page_sized = ap (λ (x : Result Sizes Refusal). head_page x s) h
 
-  pub sizes_one : (y : Sizes) → head_of (line_at s 0) ≡ Sized y → y ≡ z
+  pub sizes_one : (y : Sizes) → head_of (line_at s 0) ≡ Ok y → y ≡ z
   sizes_one y q = cc
 
 -- ---- a design that was read
@@ -62,10 +62,10 @@ module _ (s : List ℕ) (n c : ℕ) (ws : List ℤ) (a : Answered (design_number
     unfolding page_number
     accepted_page room h = then_buffer s n c ws a e (buffer_number (44 * design_count s) room) 0 (buffer_fits (44 * design_count s) room (omega (arith, count_is)))
 
-    pub no_sizes : (k : ℕ) → head_of (line_at s 0) ≡ Unsized k → ⊥
-    no_sizes k h = let q : Sized p.sizes ≡ Unsized k = sym p.head ∙ h in let x : ◌≡◌ {A = ℕ} 0 1 = cc in omega arith
+    pub some_sizes : (why : Refusal) → head_of (line_at s 0) ≡ Err why → ⊥
+    some_sizes why h = let q : ◌≡◌ {A = Result Sizes Refusal} (Ok p.sizes) (Err why) = sym p.head ∙ h in let x : ◌≡◌ {A = ℕ} 0 1 = cc in omega arith
 
-    module _ (z : Sizes) (h : head_of (line_at s 0) ≡ Sized z) where
+    module _ (z : Sizes) (h : head_of (line_at s 0) ≡ Ok z) where
       pub words_read : take c ws ≡ lines_words z s
       words_read = a.words_are e ∙ p.words ∙ ap (λ (y : Sizes). lines_words y s) (sizes_one s z h p.sizes p.head)
 

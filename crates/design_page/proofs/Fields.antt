@@ -11,7 +11,7 @@ use Rattle.hexadecimal.specs.Hex.{hex_digits}
 use Rattle.image.specs.Sizes.{Sound}
 use Rattle.image.specs.declared.Sizes.{Sizes}
 use Rattle.line.specs.Line.{line_at}
-use Rattle.frame.specs.declared.Head.TheVariants.{Sized}
+use Rattle.std.specs.Prelude.{Ok}
 use Rattle.frame.specs.Frame.{due_at, head_of, total}
 use Rattle.frame.proofs.Sized.{head_sound}
 use Rattle.lines.specs.Lines.{line_double, line_fault}
@@ -32,7 +32,7 @@ module _ (z : Sizes) (s : List ℕ) (i : ℕ) (o : Sound z) (f : line_fault z s 
   line_text_lem = rw (given_is (line_double z s i) (word_double z s i), kept_double z s i o f)
 
 -- where they stand
-module _ (z : Sizes) (s : List ℕ) (h : head_of (line_at s 0) ≡ Sized z) (i : ℕ) (l : i < total z) where
+module _ (z : Sizes) (s : List ℕ) (h : head_of (line_at s 0) ≡ Ok z) (i : ℕ) (l : i < total z) where
   abbrev page : List ℕ
   page = sheet_page s
 

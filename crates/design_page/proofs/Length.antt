@@ -7,8 +7,8 @@ use lib.ListN.{length}
 use Rattle.word.proofs.Joined.{length_joined}
 use Rattle.image.specs.declared.Sizes.{Sizes}
 use Rattle.line.specs.Line.{line_at}
-use Rattle.frame.specs.declared.Head.{Head}
-use Rattle.frame.specs.declared.Head.TheVariants.{Sized, Unsized}
+use Rattle.std.specs.Prelude.{Result, Ok, Err}
+use Rattle.refusal.specs.declared.Refusal.{Refusal}
 use Rattle.frame.specs.Frame.{due_at, head_of, total}
 use Rattle.frame.proofs.Sized.{head_sound}
 use Rattle.frame.proofs.Laws.{total_high}
@@ -24,14 +24,14 @@ pub length_page : (s : List ℕ) → length (sheet_page s) ≡ 44 * design_count
 unfolding sheet_page design_count
 length_page s = by (head_of (line_at s 0))
   where
-    by : (h : Head) → length (head_page h s) ≡ 44 * head_count h
-    by (Sized z) = length_joined (page_line z s) 44 (total z) (λ i l. length_page_line z s i)
-    by (Unsized n) = refl
+    by : (h : Result Sizes Refusal) → length (head_page h s) ≡ 44 * head_count h
+    by (Ok z) = length_joined (page_line z s) 44 (total z) (λ i l. length_page_line z s i)
+    by (Err why) = refl
 
 pub count_high : (s : List ℕ) → design_count s ≤ 561
 unfolding design_count
 count_high s = by (head_of (line_at s 0)) refl
   where
-    by : (h : Head) → head_of (line_at s 0) ≡ h → head_count h ≤ 561
-    by (Sized z) e = total_high z (head_sound (line_at s 0) z e)
-    by (Unsized n) e = omega arith
+    by : (h : Result Sizes Refusal) → head_of (line_at s 0) ≡ h → head_count h ≤ 561
+    by (Ok z) e = total_high z (head_sound (line_at s 0) z e)
+    by (Err why) e = omega arith

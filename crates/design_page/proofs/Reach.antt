@@ -8,8 +8,8 @@ use lib.ListN.{take}
 use Rattle.word.proofs.Joined.{joined_cong}
 use Rattle.image.specs.declared.Sizes.{Sizes}
 use Rattle.line.specs.Line.{line_at}
-use Rattle.frame.specs.declared.Head.{Head}
-use Rattle.frame.specs.declared.Head.TheVariants.{Sized, Unsized}
+use Rattle.std.specs.Prelude.{Result, Ok, Err}
+use Rattle.refusal.specs.declared.Refusal.{Refusal}
 use Rattle.frame.specs.Frame.{head_of, total}
 use Rattle.lines.specs.Lines.{line_word}
 use Rattle.sheet.specs.Laws.{drive_room, reach, reach_of}
@@ -21,9 +21,9 @@ page_line_take : (z : Sizes) (s : List ℕ) (m : ℕ) → 23 * (total z + 1) < m
 unfolding page_line line_word
 page_line_take z s m h i l = rw (value_take z s m h i l)
 
-by_head : (s : List ℕ) (m : ℕ) (x : Head) → reach_of x ≤ m → head_page x (take m s) ≡ head_page x s
-by_head s m (Sized z) h = joined_cong (page_line z (take m s)) (page_line z s) (total z) (page_line_take z s m (omega arith))
-by_head s m (Unsized n) h = refl
+by_head : (s : List ℕ) (m : ℕ) (x : Result Sizes Refusal) → reach_of x ≤ m → head_page x (take m s) ≡ head_page x s
+by_head s m (Ok z) h = joined_cong (page_line z (take m s)) (page_line z s) (total z) (page_line_take z s m (omega arith))
+by_head s m (Err why) h = refl
 
 -- ---- so many bytes decide any page
 module _ (s : List ℕ) (m : ℕ) (h : drive_room ≤ m) where
@@ -36,7 +36,7 @@ module _ (s : List ℕ) (m : ℕ) (h : drive_room ≤ m) where
 
   pub enough_page : sheet_page (take m s) ≡ sheet_page s
   unfolding sheet_page reach
-  enough_page = ap (λ (x : Head). head_page x (take m s)) (same_head s m near) ∙ by_head s m (head_of (line_at s 0)) near
+  enough_page = ap (λ (x : Result Sizes Refusal). head_page x (take m s)) (same_head s m near) ∙ by_head s m (head_of (line_at s 0)) near
 
   pub enough_number : (room : ℕ) → page_number (take m s) room ≡ page_number s room
   unfolding page_number

@@ -1,12 +1,11 @@
 -- Document 02, request 2: the design page of a sheet, and the number of the call that writes it. Definitions only.
-use Rattle.std.specs.Prelude.{ℕ, ◌*◌, List, [], Float}
+use Rattle.std.specs.Prelude.{ℕ, ◌*◌, List, [], Float, Result, Ok, Err}
 use Rattle.word.specs.Buffer.{joined}
 use Rattle.double.specs.Double.{double_value}
 use Rattle.image.specs.Order.{or_else, buffer_number}
 use Rattle.image.specs.declared.Sizes.{Sizes}
 use Rattle.line.specs.Line.{line_at}
-use Rattle.frame.specs.declared.Head.{Head}
-use Rattle.frame.specs.declared.Head.TheVariants.{Sized, Unsized}
+use Rattle.refusal.specs.declared.Refusal.{Refusal}
 use Rattle.frame.specs.Frame.{due_at, head_of, total}
 use Rattle.lines.specs.Lines.{line_double, line_word}
 use Rattle.intake.specs.Intake.{design_number}
@@ -31,10 +30,10 @@ page_line z s i = line_text (due_at z i) (line_effect z s i)
 abbrev pub lines_page : Sizes → List ℕ → List ℕ
 lines_page z s = joined (page_line z s) (total z)
 
--- the page for each case of `Head`; none without sizes
-abbrev pub head_page : Head → List ℕ → List ℕ
-head_page (Sized z) s = lines_page z s
-head_page (Unsized n) s = []
+-- the page of what line 01 gives; none without sizes
+abbrev pub head_page : Result Sizes Refusal → List ℕ → List ℕ
+head_page (Ok z) s = lines_page z s
+head_page (Err why) s = []
 
 -- the "design page" of a sheet
 unfoldable pub sheet_page : List ℕ → List ℕ
@@ -42,10 +41,10 @@ sheet_page s = head_page (head_of (line_at s 0)) s
 
 -- ---- the call
 
--- how many design numbers each case of `Head` has
-abbrev pub head_count : Head → ℕ
-head_count (Sized z) = total z
-head_count (Unsized n) = 0
+-- how many design numbers there are by what line 01 gives
+abbrev pub head_count : Result Sizes Refusal → ℕ
+head_count (Ok z) = total z
+head_count (Err why) = 0
 
 -- how many design numbers a sheet has by its line 01
 unfoldable pub design_count : List ℕ → ℕ

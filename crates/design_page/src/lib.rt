@@ -2,6 +2,7 @@
 #![tactic(auto)]
 
 ghost use Rattle.std.specs.Prelude.{◌≡◌, cond, ℕ, ◌+◌, ◌*◌, ◌<◌, ◌≤◌, eqb, length};
+ghost use Rattle.refusal.specs.Number.{number_of};
 ghost use Rattle.word.specs.Buffer.{put_at};
 ghost use Rattle.image.specs.Sizes.{Sound};
 ghost use Rattle.frame.specs.Frame.{total};
@@ -9,8 +10,8 @@ ghost use Rattle.lines.specs.Lines.{line_fault, line_word};
 ghost use Rattle.sheet.specs.Sheet.{lines_words};
 ghost use Rattle.design_page.specs.Page.{page_line, lines_page, sheet_page, page_number};
 
-use frame::{Head, Value};
 use image::Sizes;
+use refusal::Refusal;
 
 // The line of design number i is written at its place: the double is read from the sheet again, its word is known.
 fn put_number(page: &mut [u8], s: &[u8], z: Sizes, i: usize, word: i64)
@@ -18,12 +19,9 @@ fn put_number(page: &mut [u8], s: &[u8], z: Sizes, i: usize, word: i64)
     ensures { page.new ≡ put_at page.old (44 * i) (page_line z s.now i) }
 {
     let d = frame::due_at(z, i);
-    let x = match frame::value_of(d, line::line_at(s, 23 * (i + 1))) {
-        Value::Double(x) => x,
-        Value::Fault(_) => return, // no line of an accepted sheet
-    };
-    let kept = double::to_double(word, z.b, z.w);
-    page_line::put_line(page, 44 * i, d, page_line::effect_of(x, kept.value));
+    let given = frame::value_of(d, line::line_at(s, 23 * (i + 1))).unwrap_or(0.0);
+    let kept = double::to_double(word, z.b, z.w).unwrap_or(0.0);
+    page_line::put_line(page, 44 * i, d, page_line::effect_of(given, kept));
 }
 
 // The lines of all design numbers are written.
@@ -31,32 +29,22 @@ fn put_numbers(page: &mut [u8], s: &[u8], z: Sizes, words: &[i64])
     requires { Sound z × ((i : ℕ) → i < total z → line_fault z s.now i ≡ 0) × (words.now ≡ lines_words z s.now) × (length page.old ≡ 44 * total z) }
     ensures { page.new ≡ lines_page z s.now }
 {
-    let total = image::body_count(z);
-    let mut i: usize = 0;
-    while i < total {
+    for i in 0..z.body_count() {
         put_number(page, s, z, i, words[8 + i]);
-        i += 1;
     }
 }
 
 // The call: the page of an accepted sheet is written.
-pub fn write_page(sheet: &[u8], page: &mut [u8]) -> u32
-    ensures number { result ≡ page_number sheet.now (length page.old) }
-    ensures bytes { page.new ≡ cond (eqb result 0) (sheet_page sheet.now) page.old }
+pub fn write_page(sheet: &[u8], page: &mut [u8]) -> Result<(), Refusal>
+    ensures number { number_of result ≡ page_number sheet.now (length page.old) }
+    ensures bytes { page.new ≡ cond (eqb (number_of result) 0) (sheet_page sheet.now) page.old }
 {
-    let mut words = sheet::blank_words();
-    let t = intake::read_design(&mut words, sheet);
-    let number = t.number;
-    if number != 0 {
-        return number;
-    }
-    let count = t.count;
+    let mut words = [0; 569];
+    let count = intake::read_design(&mut words, sheet)?;
     if page.len() != 44 * (count - 8) {
-        return 15;
+        return Err(Refusal::Buffer);
     }
-    match frame::head_of(line::line_at(sheet, 0)) {
-        Head::Sized(z) => put_numbers(page, sheet, z, &words[..count]),
-        Head::Unsized(_) => {} // no accepted sheet
-    }
-    0
+    let z = frame::head_of(line::line_at(sheet, 0))?; // an accepted sheet has sizes
+    put_numbers(page, sheet, z, &words[..count]);
+    Ok(())
 }
