@@ -16,12 +16,11 @@ use Rattle.image.specs.Sizes.{Sound}
 use Rattle.image.specs.declared.Sizes.{Sizes}
 use Rattle.image.proofs.Sized.{sound_format}
 use Rattle.line.specs.Line.{line_at}
-use Rattle.line.specs.declared.Line.TheVariants.{Frame}
+use Rattle.std.specs.Prelude.{Ok}
+use Rattle.line.specs.declared.Frame.{Frame}
 use Rattle.line.proofs.Digits.{frame_back}
 use Rattle.line.proofs.Laws.{frame_end, line_take}
 use Rattle.frame.specs.declared.Due.{Due}
-use Rattle.frame.specs.declared.Head.TheVariants.{Sized}
-use Rattle.frame.specs.declared.Value.TheVariants.{Double}
 use Rattle.frame.specs.Frame.{due_at, head_of, total, value_double, value_of}
 use Rattle.frame.proofs.Sized.{head_sizes, head_sound}
 use Rattle.frame.proofs.Word.{due_value, word_back}
@@ -80,7 +79,7 @@ module _ (s : List ℕ) (e : sheet_number s ≡ 0) where
   unfolding kept_sheet
   kept_sheet_lem = ap (λ (n : ℕ). take 23 s ++ joined (kept_line (sheet_page s)) n) (count_sized s z p.head)
 
-  same_sizes : head_of (line_at t 0) ≡ Sized z
+  same_sizes : head_of (line_at t 0) ≡ Ok z
   same_sizes =
       let same : take 23 t ≡ take 23 s = ap (take 23) kept_sheet_lem ∙ take_at (take 23 s) (joined (kept_line (sheet_page s)) (total z)) 23 front in
       ap head_of (sym (line_take t 23 0 (omega arith)) ∙ ap (λ (x : List ℕ). line_at x 0) same ∙ line_take s 23 0 (omega arith)) ∙ p.head
@@ -101,17 +100,17 @@ module _ (s : List ℕ) (e : sheet_number s ≡ 0) where
         ap (take 23) (ap (drop at) kept_sheet_lem ∙ ap (λ (k : ℕ). drop k (take 23 s ++ lines)) q ∙ drop-append-add (take 23 s) lines (23 * i))
         ∙ part_joined (kept_line (sheet_page s)) 23 (total z) kept_length i l
 
-    line_is : line_at t at ≡ Frame (d i l).kind (d i l).row (d i l).column (to_bits binary64 (y i l))
+    line_is : line_at t at ≡ Ok (record { kind = (d i l).kind; row = (d i l).row; column = (d i l).column; bits = to_bits binary64 (y i l) })
     line_is =
         let f = no_fault i l in
         frame_back t at (d i l).kind (d i l).row (d i l).column (to_bits binary64 (y i l)) (line_part ∙ kept_text i l)
         (rw (kind_due z s i f) at (hex_lt 2 s at)) (rw (row_due z s i f) at (hex_lt 2 s (at + 2))) (rw (column_due z s i f) at (hex_lt 2 s (at + 4)))
         (to_bits-lt binary64 (y i l) (word_double_fits z s i sizes_sound))
 
-    value_is : line_value z t i ≡ Double (y i l)
+    value_is : line_value z t i ≡ Ok (y i l)
     unfolding line_value
     value_is =
-        ap (value_of (d i l)) line_is ∙ due_value (d i l) (to_bits binary64 (y i l)) ∙ ap Double (of_bits-to_bits binary64 (y i l) (word_double_fits z s i sizes_sound))
+        ap (value_of (d i l)) line_is ∙ due_value (d i l) (to_bits binary64 (y i l)) ∙ ap Ok (of_bits-to_bits binary64 (y i l) (word_double_fits z s i sizes_sound))
 
     -- it has no fault, and the same word
     same_line : (line_fault z t i ≡ 0) × (line_word z t i ≡ line_word z s i)
