@@ -6,18 +6,10 @@ ghost use Rattle.std.specs.Int.{w32};
 ghost use Rattle.std.proofs.Common.{SFits};
 ghost use Rattle.integer.specs.Round.{ceil};
 ghost use Rattle.gradient.specs.Bounds.{magnitude, width, range_p, range_y};
-ghost use Rattle.image.specs.Sizes.{Whole, command_count};
+ghost use Rattle.image.specs.Sizes.{command_count};
 ghost use Rattle.image.specs.Layout.{command_at, problem_at, momentum_at};
 
 use image::Image;
-
-// The magnitude of a word.
-pub fn size(x: i64) -> u64
-    requires { SFits w32 x }
-    ensures { (result ≡ nat_abs x) × (result ≤ 2 ^ 31) }
-{
-    x.unsigned_abs()
-}
 
 // The magnitude of β's word.
 pub fn momentum_size(image: &Image) -> u64
