@@ -34,7 +34,10 @@ module _ (l : In-loop-i) where
   sum-small : (e : end.End) → In64 (sum e)
   sum-small e = omega (arith, small.sums e 0 a.args.t.n (omega arith))
 
--- a row's two sums, each of which a command can be made of
+kept : {x y : ℤ} → x ≡ y → In64 y → to_z w64 (of_z w64 x) ≡ y
+kept {x} {y} e h = ap (λ (z : ℤ). to_z w64 (of_z w64 z)) e ∙ to_z-of_z (fit_abs y h)
+
+-- a row's two sums, as they are read back: of each a command can be made
 module _ (c : After-row_ends-x) where
   abbrev l : In-loop-i
   l = (goal.at.After-row_ends-x c).In-loop-i
@@ -42,23 +45,17 @@ module _ (c : After-row_ends-x) where
   abbrev s : Start
   s = a l
 
-  low_sum : c.row_ends-x.result.low ≡ sum l end.low
-  low_sum = low_is (row l) s.args.y.now.low s.args.y.now.high s.requires.0.values (small l) _ _ _ (s.requires.0.magnitude_rows (i l) l.loop-i-test.true) l.sums_of-sums.ensures l.widths_of-widths.ensures c.row_ends-x.ensures
+  low_sum : to_z w64 (of_z w64 c.row_ends-x.result.low) ≡ sum l end.low
+  low_sum = kept (low_is (row l) s.args.y.now.low s.args.y.now.high s.requires.0.values (small l) _ _ _ (s.requires.0.magnitude_rows (i l) l.loop-i-test.true) l.sums_of-sums.ensures l.widths_of-widths.ensures c.row_ends-x.ensures) (sum-small l end.low)
 
-  high_sum : c.row_ends-x.result.high ≡ sum l end.high
-  high_sum = high_is (row l) s.args.y.now.low s.args.y.now.high s.requires.0.values (small l) _ _ _ (s.requires.0.magnitude_rows (i l) l.loop-i-test.true) l.sums_of-sums.ensures l.widths_of-widths.ensures c.row_ends-x.ensures
+  high_sum : to_z w64 (of_z w64 c.row_ends-x.result.high) ≡ sum l end.high
+  high_sum = kept (high_is (row l) s.args.y.now.low s.args.y.now.high s.requires.0.values (small l) _ _ _ (s.requires.0.magnitude_rows (i l) l.loop-i-test.true) l.sums_of-sums.ensures l.widths_of-widths.ensures c.row_ends-x.ensures) (sum-small l end.high)
 
-  low-in : In64 c.row_ends-x.result.low
+  low-in : In64 (to_z w64 (of_z w64 c.row_ends-x.result.low))
   low-in = subst In64 (sym low_sum) (sum-small l end.low)
 
-  high-in : In64 c.row_ends-x.result.high
+  high-in : In64 (to_z w64 (of_z w64 c.row_ends-x.result.high))
   high-in = subst In64 (sym high_sum) (sum-small l end.high)
-
-  low-back : to_z w64 (of_z w64 c.row_ends-x.result.low) ≡ c.row_ends-x.result.low
-  low-back = to_z-of_z (fit_abs c.row_ends-x.result.low low-in)
-
-  high-back : to_z w64 (of_z w64 c.row_ends-x.result.high) ≡ c.row_ends-x.result.high
-  high-back = to_z-of_z (fit_abs c.row_ends-x.result.high high-in)
 
 pub row_ends-x-requires : goal.row_ends-x-requires
 row_ends-x-requires c =
@@ -69,12 +66,12 @@ row_ends-x-requires c =
 pub command_at-requires : goal.command_at-requires
 command_at-requires c =
     let x = (goal.at.command_at-requires c).After-row_ends-x in
-    ((c.requires.0.low_terms, omega arith), rw (low-back x) (low-in x))
+    ((c.requires.0.low_terms, omega arith), omega (arith, low-in x, high-in x))
 
 pub command_at-requires-in-loop-i : goal.command_at-requires-in-loop-i
 command_at-requires-in-loop-i c =
     let x = (goal.at.command_at-requires-in-loop-i c).After-row_ends-x in
-    ((c.requires.0.high_terms, omega (arith, c.requires.0.count)), rw (high-back x) (high-in x))
+    ((c.requires.0.high_terms, omega (arith, c.requires.0.count)), omega (arith, low-in x, high-in x))
 
 pub loop-i-preserved : goal.loop-i-preserved
 loop-i-preserved c =
@@ -85,7 +82,7 @@ loop-i-preserved c =
     let few = c.requires.0.low_terms.few in
     let terms = end_term end.high (row (l x)) g.y.now.low g.y.now.high in (
       filled_more (pos 0) (z_end end.low g.m.now g.t g.y.now.low g.y.now.high) _ (omega (arith, few)) c.loop-i.invariant.0
-          (back c.command_at.result c.command_at.type_inv ∙ (rw (low-back x) at c.command_at.ensures) ∙ ap (command_of g.t i) (low_sum x)),
+          (back c.command_at.result c.command_at.type_inv ∙ c.command_at.ensures ∙ ap (command_of g.t i) (low_sum x)),
       filled_more (pos 0) (z_end end.high g.m.now g.u g.y.now.low g.y.now.high) _ (omega (arith, few)) c.loop-i.invariant.1
-          (back c.command_at-in-loop-i.result c.command_at-in-loop-i.type_inv ∙ (rw (high-back x) at c.command_at-in-loop-i.ensures) ∙ ap (command_of g.u i) (high_sum x) ∙ ap (λ (n : ℕ). command_of g.u i (sum_z terms 0 n)) (sym n)),
+          (back c.command_at-in-loop-i.result c.command_at-in-loop-i.type_inv ∙ c.command_at-in-loop-i.ensures ∙ ap (command_of g.u i) (high_sum x) ∙ ap (λ (n : ℕ). command_of g.u i (sum_z terms 0 n)) (sym n)),
     )
