@@ -17,7 +17,6 @@ use Rattle.image.specs.declared.Sizes.{Sizes}
 use Rattle.image.proofs.Sized.{sound_format}
 use Rattle.line.specs.Line.{line_at}
 use Rattle.std.specs.Prelude.{Ok}
-use Rattle.line.specs.declared.Frame.{Frame}
 use Rattle.line.proofs.Digits.{frame_back}
 use Rattle.line.proofs.Laws.{frame_end, line_take}
 use Rattle.frame.specs.declared.Due.{Due}

@@ -1,6 +1,6 @@
 -- Its double and that of its word are compared. Assumes nothing.
-use Rattle.std.proofs.Common.{◌≡◌, arith, refl, false, pos, sym, ap, ◌∙◌, ◌*◌, to_z-of_z, Result, Ok, Err}
-use lib.Ieee.{Float, fin, binary64, of_bits}
+use Rattle.std.proofs.Common.{◌≡◌, arith, refl, sym, ap, ◌∙◌, ◌*◌, to_z-of_z, Result, Ok, Err}
+use lib.Ieee.{Float, binary64, of_bits}
 use Rattle.word.specs.Buffer.{put_at}
 use Rattle.std.specs.Result.{result_unwrap_or}
 use Rattle.refusal.specs.declared.Refusal.{Refusal}

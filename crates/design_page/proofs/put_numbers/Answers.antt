@@ -1,12 +1,12 @@
 -- The lines of the numbers passed stand in front. Assumes nothing.
-use Rattle.std.proofs.Common.{◌≡◌, ◌≤◌, ◌<◌, arith, refl, sym, ap, ◌∙◌, ℕ, ◌+◌, ◌*◌, List, ℤ, pos, length, take, w64, to_z, of_z, to_z-of_z, add-one}
+use Rattle.std.proofs.Common.{◌≡◌, ◌<◌, arith, refl, sym, ap, ◌∙◌, ◌+◌, ◌*◌, List, ℤ, pos, length, take, w64, to_z, of_z, to_z-of_z, add-one}
 use lib.ListN.{get_or}
 use lib.Seq.{take_all}
 use Rattle.integer.proofs.Machine.{wide32}
-use Rattle.word.specs.Buffer.{joined, put_at}
+use Rattle.word.specs.Buffer.{joined}
 use Rattle.word.proofs.Buffer.{front_put}
 use Rattle.frame.specs.Frame.{total}
-use Rattle.frame.proofs.Laws.{total_high, total_is}
+use Rattle.frame.proofs.Laws.{total_is}
 use Rattle.lines.specs.Lines.{line_word}
 use Rattle.sheet.proofs.Fits.{lines_fit}
 use Rattle.sheet.proofs.Whole.{line_at_lem, long}

@@ -1,5 +1,5 @@
 -- Each way out is one law of Call.antt. Assumes nothing.
-use Rattle.std.proofs.Common.{◌≡◌, ◌-◌, ◌*◌, arith, refl, sym, ap, ◌∙◌, length, Ok}
+use Rattle.std.proofs.Common.{◌≡◌, arith, refl, sym, ap, ◌∙◌, length, Ok}
 use Rattle.std.proofs.lemmas.Result.{err_from_is_err_and}
 use Rattle.refusal.specs.Number.{number}
 use Rattle.refusal.proofs.Numbers.{above_zero}
