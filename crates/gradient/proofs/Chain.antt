@@ -25,6 +25,6 @@ list_all_range t (suc n) = let e = list_all_more t 0 n n (omega arith) in let f 
 module _ {F : Type 0} {g : Mut F (ℕ × Unit {0}) Bool} {n m : ℕ} {u : Range ℕ} {f : F} {r : Bool} (test : ℕ → Bool) where
   pub all_of_range : n ≡ m
       → ((xs : List ℕ) × (o : Option ℕ) × (j : F) × YieldsThen nat_range_steps (record { start = 0; end = n }) xs o u × FoldsTo (λ p x q. Called g p (x, tt) true q) f xs j
-          × MatchOption o (r ≡ true) (λ x. (r ≡ false) × ((h : F) × Called g j (x, tt) false h)))
+      × MatchOption o (r ≡ true) (λ x. (r ≡ false) × ((h : F) × Called g j (x, tt) false h)))
       → ((x : ℕ) (b : Bool) (q : F) → Called g f (x, tt) b q → (q ≡ f) × (b ≡ test x)) → r ≡ all_to test m
   all_of_range e ran each = all_from_yields_List test u f r ran (YieldsList-from_range 0 n m refl (omega arith)) each ∙ list_all_range test m
