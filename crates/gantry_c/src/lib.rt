@@ -1,4 +1,4 @@
-// The calls of `gantry` for C, under their own names: libgantry.a, include/gantry.h. Each says again what the call promises.
+// The calls of `gantry` for C, under their own names: libgantry.a, include/gantry.h. Each says again what the call promises, with the number in place of the refusal.
 #![tactic(auto)]
 
 ghost use Rattle.std.specs.Prelude.{◌≡◌, cond, eqb, length};
@@ -17,7 +17,7 @@ pub extern "C" fn gantry_intake(sheet: &[u8], image: &mut [u8]) -> u32
     ensures number { result ≡ intake_number sheet.now (length image.old) }
     ensures bytes { image.new ≡ cond (eqb result 0) (intake_image sheet.now) image.old }
 {
-    gantry::gantry_intake(sheet, image)
+    refusal::number(gantry::gantry_intake(sheet, image))
 }
 
 // Reads a design sheet and writes its design page.
@@ -26,7 +26,7 @@ pub extern "C" fn gantry_page(sheet: &[u8], page: &mut [u8]) -> u32
     ensures number { result ≡ page_number sheet.now (length page.old) }
     ensures bytes { page.new ≡ cond (eqb result 0) (sheet_page sheet.now) page.old }
 {
-    gantry::gantry_page(sheet, page)
+    refusal::number(gantry::gantry_page(sheet, page))
 }
 
 // Writes a start of all zeros.
@@ -35,7 +35,7 @@ pub extern "C" fn gantry_cold_start(image: &[u8], start: &mut [u8]) -> u32
     ensures number { result ≡ cold_number image.now (length start.old) }
     ensures bytes { start.new ≡ cond (eqb result 0) (cold_answer image.now) start.old }
 {
-    gantry::gantry_cold_start(image, start)
+    refusal::number(gantry::gantry_cold_start(image, start))
 }
 
 // Runs the image's sweeps from a start, and writes the commands, their bounds and D.
@@ -51,7 +51,7 @@ pub extern "C" fn gantry_solve(
     ensures bytes { answer.new ≡ cond (eqb result 0) (solve_answer image.now state.now target.now start.now) answer.old }
     ensures guarantee { result ≡ 0 → Guarantee image.now state.now target.now start.now answer.new }
 {
-    gantry::gantry_solve(image, state, target, start, answer)
+    refusal::number(gantry::gantry_solve(image, state, target, start, answer))
 }
 
 // The same for a state that is known within ranges: writes the lowest and the highest commands.
@@ -67,7 +67,7 @@ pub extern "C" fn gantry_range_solve(
     ensures bytes { answer.new ≡ cond (eqb result 0) (range_answer image.now ranges.now target.now start.now) answer.old }
     ensures guarantee { result ≡ 0 → RangeGuarantee image.now ranges.now target.now start.now answer.new }
 {
-    gantry::gantry_range_solve(image, ranges, target, start, answer)
+    refusal::number(gantry::gantry_range_solve(image, ranges, target, start, answer))
 }
 
 // Makes a drive of an image and 1 to 4 heads: each has a start of zeros and no sweeps, and no answer waits.
@@ -76,7 +76,7 @@ pub extern "C" fn gantry_make(image: &[u8], heads: u32, drive: &mut [u8]) -> u32
     ensures number { result ≡ make_number image.now heads (length drive.old) }
     ensures drive { drive.new ≡ cond (eqb result 0) (make_drive image.now heads) drive.old }
 {
-    gantry::gantry_make(image, heads, drive)
+    refusal::number(gantry::gantry_make(image, heads, drive))
 }
 
 // Begins a period of that many sweeps: each head owns an even share of them, the remainder is common, and what was left lapses.
@@ -85,7 +85,7 @@ pub extern "C" fn gantry_period(drive: &mut [u8], sweeps: u16) -> u32
     ensures number { result ≡ period_number drive.old }
     ensures drive { drive.new ≡ cond (eqb result 0) (period_drive drive.old sweeps) drive.old }
 {
-    gantry::gantry_period(drive, sweeps)
+    refusal::number(gantry::gantry_period(drive, sweeps))
 }
 
 // Replaces the image of a drive in which no answer waits, and sets every head's start to zero; the sweeps stay.
@@ -94,7 +94,7 @@ pub extern "C" fn gantry_new_image(drive: &mut [u8], image: &[u8]) -> u32
     ensures number { result ≡ new_number drive.old image.now }
     ensures drive { drive.new ≡ cond (eqb result 0) (imaged drive.old image.now) drive.old }
 {
-    gantry::gantry_new_image(drive, image)
+    refusal::number(gantry::gantry_new_image(drive, image))
 }
 
 // Solves on a drive's image from a head's start, writes the answer, keeps it as the head's waiting one, and takes the image's sweeps.
@@ -111,7 +111,7 @@ pub extern "C" fn gantry_ask(
     ensures drive { drive.new ≡ cond (eqb result 0) (ask_drive drive.old head state.now target.now) drive.old }
     ensures guarantee { result ≡ 0 → Guarantee (held_image drive.old) state.now target.now (held_start drive.old head) answer.new }
 {
-    gantry::gantry_ask(drive, head, state, target, answer)
+    refusal::number(gantry::gantry_ask(drive, head, state, target, answer))
 }
 
 // Writes the first commands of a head's waiting answer, and moves the rest on as its next start.
@@ -121,7 +121,7 @@ pub extern "C" fn gantry_commit(drive: &mut [u8], head: u32, commands: &mut [u8]
     ensures commands { commands.new ≡ cond (eqb result 0) (commit_answer drive.old head) commands.old }
     ensures drive { drive.new ≡ cond (eqb result 0) (commit_drive drive.old head) drive.old }
 {
-    gantry::gantry_commit(drive, head, commands)
+    refusal::number(gantry::gantry_commit(drive, head, commands))
 }
 
 // A head is done: what it has left of its own share becomes common.
@@ -130,5 +130,5 @@ pub extern "C" fn gantry_done(drive: &mut [u8], head: u32) -> u32
     ensures number { result ≡ place_number drive.old head }
     ensures drive { drive.new ≡ cond (eqb result 0) (done_drive drive.old head) drive.old }
 {
-    gantry::gantry_done(drive, head)
+    refusal::number(gantry::gantry_done(drive, head))
 }
