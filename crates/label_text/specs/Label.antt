@@ -1,25 +1,24 @@
 -- Document 01, "The label program", and document 02, request 1: what it prints for the bytes of drive.hex, state.hex and target.hex. Definitions only.
-use Rattle.std.specs.Prelude.{ℕ, ◌≤◌, ◌≡◌, List, length, take}
+use Rattle.std.specs.Prelude.{ℕ, List, length, Result, Ok, Err}
+use Rattle.refusal.specs.declared.Refusal.{Refusal}
+use Rattle.image.specs.declared.Sizes.{Sizes}
 use Rattle.image.specs.Order.{or_else}
 use Rattle.image.specs.Sizes.{command_count}
 use Rattle.image.specs.Layout.{sizes_of}
 use Rattle.interface.specs.Calls.{cold_answer, answer_length, solve_number, solve_answer}
 use Rattle.line.specs.Line.{line_at}
-use Rattle.frame.specs.declared.Head.{Head}
-use Rattle.frame.specs.declared.Head.TheVariants.{Sized, Unsized}
 use Rattle.frame.specs.Frame.{head_of}
 use Rattle.intake.specs.Intake.{intake_image, intake_number}
 use Rattle.word_file.specs.WordFile.{file_words}
 use Rattle.text.specs.Text.{lines, printed}
 use Rattle.label_files.specs.Files.{form_number}
-use Rattle.label_text.specs.declared.Drive.{Drive}
 
 -- ---- how many target values
 
 -- the nr of line 01; 0 where it gives no sizes
-abbrev pub head_targets : Head → ℕ
-head_targets (Sized z) = z.nr
-head_targets (Unsized n) = 0
+abbrev pub head_targets : Result Sizes Refusal → ℕ
+head_targets (Ok z) = z.nr
+head_targets (Err why) = 0
 
 unfoldable pub target_count : List ℕ → ℕ
 target_count drive = head_targets (head_of (line_at drive 0))
@@ -41,12 +40,3 @@ image_text image state target =
 -- "It reads drive.hex (a sheet) and state.hex", and target.hex: the intake's number, for a buffer of the image's own length, comes first
 unfoldable pub label_text : List ℕ → List ℕ → List ℕ → List ℕ
 label_text drive state target = printed (intake_number drive (length (intake_image drive))) (image_text (intake_image drive) state target)
-
--- ---- what the code holds
-
--- the number of a sheet, and with 0 its image in front of an array
-pub record ReadDrive (sheet : List ℕ) (d : Drive) : Type 0 where
-  pub number_is : d.number ≡ intake_number sheet (length (intake_image sheet))
-  pub size : length d.image ≡ 2276
-  pub room : d.length ≤ 2276
-  pub image_is : d.number ≡ 0 → take d.length d.image ≡ intake_image sheet

@@ -1,101 +1,75 @@
 // What the label program prints, from the bytes of its files.
 #![tactic(auto)]
 
-ghost use Rattle.std.specs.Prelude.{◌≡◌, ◌*◌, ◌≤◌, length, take};
-ghost use Rattle.image.specs.Sizes.{command_count};
-ghost use Rattle.image.specs.Layout.{sizes_of};
+ghost use Rattle.std.specs.Prelude.{◌≡◌, length, IfOk};
+ghost use Rattle.refusal.specs.Number.{number_of};
 ghost use Rattle.interface.specs.Tables.{image_number};
-ghost use Rattle.interface.specs.Calls.{cold_answer};
-ghost use Rattle.text.specs.Text.{Holds};
-ghost use Rattle.label_text.specs.Label.{target_count, image_text, label_text, ReadDrive};
+ghost use Rattle.intake.specs.Intake.{intake_image, intake_number};
+ghost use Rattle.text.specs.Text.{written};
+ghost use Rattle.label_text.specs.Label.{target_count, image_text, label_text};
 
-use frame::Head;
-use text::Text;
+use image::Image;
+use refusal::Refusal;
+use text::{LABEL_ROOM, Text};
 
-// The number of a sheet, and with 0 its image in front of the array.
-#[derive(Drop)]
-pub struct Drive {
-    pub number: u32,
-    pub length: usize,
-    pub image: [u8; 2276],
-}
+// Room for the largest image.
+const IMAGE_ROOM: usize = 2276;
 
-// Takes a sheet in. Reading it once before tells the image's length, which the intake asks for.
-fn read_drive(drive: &[u8]) -> Drive
-    ensures { ReadDrive drive.now result }
+// The image of a sheet. Reading the sheet once before tells the image's length, which the intake asks for.
+fn read_drive(drive: &[u8]) -> Result<Text<IMAGE_ROOM>, Refusal>
+    ensures number { number_of result ≡ intake_number drive.now (length (intake_image drive.now)) }
+    ensures image { IfOk result (λ image. image ≡ intake_image drive.now) }
 {
-    let mut words = sheet::blank_words();
-    let t = sheet::read_sheet(&mut words, drive);
-    let length = 4 * t.count;
-    let mut image = intake::blank_image();
-    let number = gantry::gantry_intake(drive, &mut image[..length]);
-    Drive {
-        number,
-        length,
-        image,
-    }
-}
-
-// The cold start of an accepted image of n commands, in front of the array.
-fn cold_start(image: &[u8], n: usize) -> [u8; 64]
-    requires { (image_number image.now ≡ 0) × ((n ≡ command_count (sizes_of image.now)) × (n ≤ 16)) }
-    ensures { (length result ≡ 64) × (take (4 * n) result ≡ cold_answer image.now) }
-{
-    let mut start = word_file::blank_words();
-    gantry::gantry_cold_start(image, &mut start[..4 * n]);
-    start
+    let mut words = [0; 569];
+    let size = 4 * sheet::read_sheet(&mut words, drive)?;
+    let mut image = [0; IMAGE_ROOM];
+    gantry::gantry_intake(drive, &mut image[..size])?;
+    Ok(Text::new(image, size))
 }
 
 // The number of target values that line 01 of a sheet gives.
+#[tactic(auto, unfolding(crate::specs::Label::target_count))]
 pub fn target_count(drive: &[u8]) -> usize
     ensures { result ≡ target_count drive.now }
 {
-    match frame::head_of(line::line_at(drive, 0)) {
-        Head::Sized(z) => z.nr,
-        Head::Unsized(_) => 0,
-    }
+    frame::head_of(line::line_at(drive, 0)).map_or(0, |z| z.nr)
 }
 
-// The label of an accepted image.
-fn image_text(image: &[u8], state: &[u8], target: &[u8]) -> Text
-    requires { image_number image.now ≡ 0 }
-    ensures { Holds (image_text image.now state.now target.now) result }
+// The label of an accepted image. Its own cold start is refused by none.
+fn image_text(bytes: &[u8], state: &[u8], target: &[u8]) -> Result<Text<LABEL_ROOM>, Refusal>
+    requires { image_number bytes.now ≡ 0 }
+    ensures { written result ≡ image_text bytes.now state.now target.now }
 {
-    let z = image::sizes_of(image);
-    let fault = label_files::form_number(image, z, state, target);
-    if fault != 0 {
-        return text::refusal_of(fault);
-    }
-    let nx = z.nx;
-    let nr = z.nr;
-    let n = z.nu * z.steps;
-    let x = word_file::file_words(state, nx);
-    let r = word_file::file_words(target, nr);
-    let start = cold_start(image, n);
-    let mut answer = text::blank_text();
-    let number = gantry::gantry_solve(
-        image,
-        &x[..4 * nx],
-        &r[..4 * nr],
+    let image = Image::of(bytes);
+    let z = image.sizes;
+    label_files::check_files(&image, state, target)?;
+    let n = z.command_count();
+    let x = word_file::file_words(state, z.nx);
+    let r = word_file::file_words(target, z.nr);
+    let mut start = [0; 64];
+    gantry::gantry_cold_start(bytes, &mut start[..4 * n])?;
+    let mut answer = [0; 136];
+    gantry::gantry_solve(
+        bytes,
+        &x[..4 * z.nx],
+        &r[..4 * z.nr],
         &start[..4 * n],
         &mut answer[..8 * n + 8],
-    );
-    if number != 0 {
-        return text::refusal_of(number);
-    }
-    text::lines_of(&answer[..8 * n + 8], n)
+    )?;
+    Ok(text::lines_of(&answer[..8 * n + 8], n))
+}
+
+// The label, or why there is none.
+fn drive_text(drive: &[u8], state: &[u8], target: &[u8]) -> Result<Text<LABEL_ROOM>, Refusal>
+    ensures { written result ≡ label_text drive.now state.now target.now }
+{
+    let image = read_drive(drive)?;
+    image_text(image.as_bytes(), state, target)
 }
 
 // What the label program prints.
-pub fn label(drive: &[u8], state: &[u8], target: &[u8]) -> Text
-    ensures { Holds (label_text drive.now state.now target.now) result }
+pub fn label(drive: &[u8], state: &[u8], target: &[u8]) -> Text<LABEL_ROOM>
+    ensures { result ≡ label_text drive.now state.now target.now }
 {
-    let d = read_drive(drive);
-    let number = d.number;
-    if number != 0 {
-        return text::refusal_of(number);
-    }
-    let image = d.image;
-    let length = d.length;
-    image_text(&image[..length], state, target)
+    Text::written(drive_text(drive, state, target))
 }
