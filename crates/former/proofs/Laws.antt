@@ -8,15 +8,16 @@ use lib.Dec.{eqb, leb}
 use lib.Ieee.{Float}
 use lib.ListN.{length}
 use borrow.Author.Tests.{ne_eqb}
+use Rattle.std.specs.Prelude.{Result, Ok, Err}
+use Rattle.refusal.specs.declared.Refusal.{Refusal}
+use Rattle.refusal.specs.declared.Refusal.TheVariants.{Misplaced}
 use Rattle.word.specs.Word.{nat_at}
 use Rattle.image.specs.declared.Sizes.{Sizes}
 use Rattle.image.specs.Order.{or_else}
 use Rattle.image.specs.Sizes.{sound}
 use Rattle.image.specs.Layout.{sizes_of}
 use Rattle.line.specs.Line.{line_at}
-use Rattle.line.specs.declared.Line.{Line}
-use Rattle.line.specs.declared.Line.TheVariants.{Frame, Malformed, End}
-use Rattle.frame.specs.declared.Head.TheVariants.{Unsized}
+use Rattle.line.specs.declared.Frame.{Frame}
 use Rattle.frame.specs.Frame.{word_of}
 use Rattle.former.specs.Version.{today, before_targets, before_horizon}
 use Rattle.former.specs.Former as former
@@ -58,10 +59,9 @@ another_byte sheet state target room h = let e = two in record { number = rw e; 
     two : former.sheet_number before_targets sheet ≡ 2
     two = unfold former.sheet_number in rw (other (line_at sheet 0) h)
       where
-        other : (l : Line) → (fourth_byte l ≡ 0 → ⊥) → former.head_of before_targets l ≡ Unsized 2
-        other End k = absurd (k refl)
-        other Malformed k = absurd (k refl)
-        other (Frame kind row column bits) k = unfold former.head_of in rw (ne_eqb (bits / 0x1_0000_0000 % 256) 0 k, and-false (eqb kind 1))
+        other : (l : Result Frame Refusal) → (fourth_byte l ≡ 0 → ⊥) → former.head_of before_targets l ≡ Err Misplaced
+        other (Err why) k = absurd (k refl)
+        other (Ok f) k = unfold former.head_of in rw (ne_eqb (f.bits / 0x1_0000_0000 % 256) 0 k, and-false (eqb f.kind 1))
 
 pub another_word : (image state target start : List ℕ) (room : ℕ) → (nat_at image 24 ≡ 0 → ⊥) → WasThree image state target start room
 unfolding former.cold_number former.solve_number former.solvable_number former.image_number former.head_number

@@ -9,6 +9,11 @@ use lib.Dec.{eqb, leb}
 use lib.ListN.{length}
 use lib.Ieee.{binary64, of_bits}
 use borrow.Author.Tests.{eqb-true, ne_eqb}
+use Rattle.std.specs.Prelude.{Result, Ok, Err}
+use Rattle.refusal.specs.Number.{number}
+use Rattle.refusal.specs.declared.Refusal.{Refusal}
+use Rattle.refusal.specs.declared.Refusal.TheVariants.{Misplaced}
+use Rattle.refusal.proofs.Numbers.{above_zero}
 use Rattle.word.specs.Word.{nat_at}
 use Rattle.image.specs.declared.Sizes.{Sizes}
 use Rattle.image.specs.Sizes.{body_count, sound, Sound}
@@ -19,14 +24,10 @@ use Rattle.image.proofs.Sized.{sound_facts}
 use Rattle.interface.specs.Tables.{image_number}
 use Rattle.interface.specs.Calls.{cold_number, solvable_number, solve_number}
 use Rattle.line.specs.Line.{line_at}
-use Rattle.line.specs.declared.Line.{Line}
-use Rattle.line.specs.declared.Line.TheVariants.{Frame, Malformed, End}
-use Rattle.frame.specs.declared.Head.{Head}
-use Rattle.frame.specs.declared.Head.TheVariants.{Sized, Unsized}
-use Rattle.frame.specs.declared.Value.TheVariants.{Double, Fault}
+use Rattle.line.specs.declared.Frame.{Frame}
 use Rattle.frame.specs.Frame.{due, head_of, low_base, total, value_number, value_of, word_of}
 use Rattle.frame.proofs.Laws.{total_is}
-use Rattle.frame.proofs.Sized.{head_none, head_sizes, head_sound}
+use Rattle.frame.proofs.Sized.{head_sizes, head_sound}
 use Rattle.lines.specs.Lines.{line_fault, line_value}
 use Rattle.sheet.specs.Sheet.{end_number, lines_number, sheet_number}
 use Rattle.sheet.proofs.Entries.{first_zero}
@@ -41,16 +42,19 @@ use Rattle.former.specs.Laws.{steps_byte, NowSix, NowTwo}
 use Rattle.former.proofs.Due.{first_difference, two_commands}
 use Rattle.former.proofs.Sheets.{head_same}
 
+-- a refusal has a number
+never : (why : Refusal) → number why ≡ 0 → ⊥
+never why e = omega (arith, above_zero why)
+
 -- ---- a line
 -- a line without a fault where a 05 was due has another kind than the 04 that is
-wrong_kind : (z : Sizes) (l : Line) → value_number z 5 (value_of (due 5 0 0) l) ≡ 0 → value_number z 4 (value_of (due 4 0 1) l) ≡ 2
-wrong_kind z End h = let x : ⊥ = omega arith in absurd x
-wrong_kind z Malformed h = let x : ⊥ = omega arith in absurd x
-wrong_kind z (Frame kind row column bits) h = by (eqb kind 5) refl h
+wrong_kind : (z : Sizes) (l : Result Frame Refusal) → value_number z 5 (value_of (due 5 0 0) l) ≡ 0 → value_number z 4 (value_of (due 4 0 1) l) ≡ 2
+wrong_kind z (Err why) h = absurd (never why h)
+wrong_kind z (Ok f) h = by (eqb f.kind 5) refl h
   where
-    by : (b : Bool) → eqb kind 5 ≡ b → value_number z 5 (cond (b && eqb row 0 && eqb column 0) (Double (of_bits binary64 bits)) (Fault 2)) ≡ 0
-        → value_number z 4 (value_of (due 4 0 1) (Frame kind row column bits)) ≡ 2
-    by true q n = rw (ne_eqb kind 4 (λ (w : kind ≡ 4). omega (arith, eqb-true kind 5 q)))
+    by : (b : Bool) → eqb f.kind 5 ≡ b → value_number z 5 (cond (b && eqb f.row 0 && eqb f.column 0) (Ok (of_bits binary64 f.bits)) (Err Misplaced)) ≡ 0
+        → value_number z 4 (value_of (due 4 0 1) (Ok f)) ≡ 2
+    by true q n = rw (ne_eqb f.kind 4 (λ (w : f.kind ≡ 4). omega (arith, eqb-true f.kind 5 q)))
     by false q n = let x : ⊥ = omega arith in absurd x
 
 -- ---- the lines after line 01
@@ -89,11 +93,11 @@ module _ (s : List ℕ) (passes : former.sheet_number before_horizon s ≡ 0) (m
   unfolding sheet_number former.sheet_number
   sheet_two = by (head_of (line_at s 0)) refl
     where
-      by : (h : Head) → head_of (line_at s 0) ≡ h → sheet_number s ≡ 2
-      by (Sized z) q =
+      by : (h : Result Sizes Refusal) → head_of (line_at s 0) ≡ h → sheet_number s ≡ 2
+      by (Ok z) q =
           let steps : z.steps ≡ steps_byte s = ap (λ (x : Sizes). x.steps) (head_sizes s 0 z q).1 in
           rw q (lines_two z (head_sound (line_at s 0) z q) (omega arith) s (rw (← same, q) at passes))
-      by (Unsized n) q = absurd (head_none (line_at s 0) n q (rw (← same, q) at passes))
+      by (Err why) q = absurd (never why (rw (← same, q) at passes))
 
 -- ---- the laws
 -- the sheets that pass lines and end by them, so all that they accept

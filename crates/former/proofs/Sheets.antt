@@ -9,6 +9,9 @@ use lib.IntN.{ℤ}
 use lib.Ieee.{Float}
 use lib.ListN.{length}
 use borrow.Author.Tests.{eqb-true, eq-eqb}
+use Rattle.std.specs.Prelude.{Result, Ok, Err}
+use Rattle.refusal.specs.declared.Refusal.{Refusal}
+use Rattle.refusal.specs.declared.Refusal.TheVariants.{Misplaced, Size}
 use Rattle.word.specs.Buffer.{joined}
 use Rattle.word.proofs.Joined.{joined_cong}
 use Rattle.double.specs.Double.{converted_number}
@@ -22,13 +25,8 @@ use Rattle.image.specs.Layout.{sizes_of}
 use Rattle.image.proofs.Ordering.{none}
 use Rattle.interface.specs.Calls.{answer_length, solve_number, solve_answer}
 use Rattle.line.specs.Line.{line_at}
-use Rattle.line.specs.declared.Line.{Line}
-use Rattle.line.specs.declared.Line.TheVariants.{Frame, Malformed, End}
+use Rattle.line.specs.declared.Frame.{Frame}
 use Rattle.line.proofs.Laws.{framed}
-use Rattle.frame.specs.declared.Head.{Head}
-use Rattle.frame.specs.declared.Head.TheVariants.{Sized, Unsized}
-use Rattle.frame.specs.declared.Value.{Value}
-use Rattle.frame.specs.declared.Value.TheVariants.{Double, Fault}
 use Rattle.frame.specs.Frame.{frame_sizes, frame_zeros, head_of, value_number, word_of}
 use Rattle.frame.proofs.Sized.{differ, head_sizes}
 use Rattle.lines.specs.Lines.{line_value, line_fault, line_word, size_words}
@@ -55,9 +53,9 @@ module _ (v : Version) (z : Sizes) (f : Fits v z) where
   unfolding word_of former.word_of
   word_is kind x = rw f.nearest
 
-  value_is : (kind : ℕ) (x : Value) → value_number z kind x ≡ former.value_number v z kind x
-  value_is kind (Double x) = ap converted_number (word_is kind x)
-  value_is kind (Fault n) = refl
+  value_is : (kind : ℕ) (x : Result Float Refusal) → value_number z kind x ≡ former.value_number v z kind x
+  value_is kind (Ok x) = ap converted_number (word_is kind x)
+  value_is kind (Err why) = refl
 
   module _ (s : List ℕ) where
     value_same : (i : ℕ) → line_value z s i ≡ former.line_value v z s i
@@ -138,22 +136,21 @@ pub record FitsSheet (v : Version) (s : List ℕ) : Type 0 where
   pub one_step : v.horizon ≡ false → steps_byte s ≡ 1
   pub nearest : v.nearest ≡ true
 
-pub head_same : (v : Version) (l : Line) → (v.targets ≡ false → fourth_byte l ≡ 0) → head_of l ≡ former.head_of v l
+pub head_same : (v : Version) (l : Result Frame Refusal) → (v.targets ≡ false → fourth_byte l ≡ 0) → head_of l ≡ former.head_of v l
 unfolding head_of former.head_of
-head_same v End h = refl
-head_same v Malformed h = refl
-head_same v (Frame kind row column bits) h =
-    ap (λ (b : Bool). cond (eqb kind 1 && (b && frame_zeros bits)) (cond (sound (frame_sizes row column bits)) (Sized (frame_sizes row column bits)) (Unsized 3)) (Unsized 2)) (by v.targets refl)
+head_same v (Err why) h = refl
+head_same v (Ok f) h =
+    ap (λ (b : Bool). cond (eqb f.kind 1 && (b && frame_zeros f.bits)) (cond (sound (frame_sizes f.row f.column f.bits)) (Ok (frame_sizes f.row f.column f.bits)) (Err Size)) (Err Misplaced)) (by v.targets refl)
   where
-    by : (t : Bool) → v.targets ≡ t → true ≡ t || eqb (bits / 0x1_0000_0000 % 256) 0
+    by : (t : Bool) → v.targets ≡ t → true ≡ t || eqb (f.bits / 0x1_0000_0000 % 256) 0
     by true e = refl
-    by false e = let q : bits / 0x1_0000_0000 % 256 ≡ 0 = h e in rw q
+    by false e = let q : f.bits / 0x1_0000_0000 % 256 ≡ 0 = h e in rw q
 
 -- nr of the sizes that it gives
-nr_zero : (s : List ℕ) (z : Sizes) → head_of (line_at s 0) ≡ Sized z → fourth_byte (line_at s 0) ≡ 0 → z.nr ≡ 0
+nr_zero : (s : List ℕ) (z : Sizes) → head_of (line_at s 0) ≡ Ok z → fourth_byte (line_at s 0) ≡ 0 → z.nr ≡ 0
 unfolding head_of
 nr_zero s z q e =
-    let p = framed (λ (l : Line). (head_of l ≡ Sized z) × (fourth_byte l ≡ 0)) s 0 (λ h. let x = h.0 in differ (cc)) (λ h. let x = h.0 in differ (cc)) (q, e) in
+    let p = framed (λ (l : Result Frame Refusal). (head_of l ≡ Ok z) × (fourth_byte l ≡ 0)) s 0 (λ h. let x = h.0 in differ (cc)) (λ h. let x = h.0 in differ (cc)) (q, e) in
     ap (λ (x : Sizes). x.nr) (head_sizes s 0 z q).1 ∙ p.1.1
 
 -- ---- the sheet
@@ -161,17 +158,17 @@ module _ (v : Version) (s : List ℕ) (fit : FitsSheet v s) where
   same : head_of (line_at s 0) ≡ former.head_of v (line_at s 0)
   same = head_same v (line_at s 0) fit.no_targets
 
-  fits : (z : Sizes) → head_of (line_at s 0) ≡ Sized z → Fits v z
+  fits : (z : Sizes) → head_of (line_at s 0) ≡ Ok z → Fits v z
   fits z q = record {
     no_targets = λ e. nr_zero s z q (fit.no_targets e);
     one_step = λ e. ap (λ (x : Sizes). x.steps) (head_sizes s 0 z q).1 ∙ fit.one_step e;
     nearest = fit.nearest;
   }
 
-  after_same : (h : Head) → ((z : Sizes) → h ≡ Sized z → Fits v z)
+  after_same : (h : Result Sizes Refusal) → ((z : Sizes) → h ≡ Ok z → Fits v z)
       → (head_number h s ≡ former.after_head v h s) × (head_words h s ≡ former.head_words v h s) × (head_page h s ≡ former.head_page v h s) × (head_count h ≡ former.head_count v h)
-  after_same (Sized z) k = let f = k z refl in (lines_same v z f s, words_same v z f s, page_same v z f s, total_same v z f)
-  after_same (Unsized n) k = (refl, refl, refl, refl)
+  after_same (Ok z) k = let f = k z refl in (lines_same v z f s, words_same v z f s, page_same v z f s, total_same v z f)
+  after_same (Err why) k = (refl, refl, refl, refl)
 
   sheet_number_lem : sheet_number s ≡ former.sheet_number v s
   unfolding sheet_number former.sheet_number

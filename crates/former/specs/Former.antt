@@ -1,13 +1,15 @@
 -- The definitions of today, from image to label, over a version: each has the name and the text that it has today, and a request that the
 -- version may lack shows as a case. All else is cited. That with all four requests they are today's is a law (`restated`). Definitions only.
-use Rattle.std.specs.Prelude.{ℕ, ◌+◌, ◌-◌, ◌*◌, ◌/◌, ◌%◌, ◌^◌, Bool, cond, ◌&&◌, ◌||◌, List, [], ◌∷◌, ◌++◌, map, eqb, leb, ℤ, pos, nat_abs, ◌+ℤ◌, ◌-ℤ◌, ◌*ℤ◌, Float, drop, length}
+use Rattle.std.specs.Prelude.{ℕ, ◌+◌, ◌-◌, ◌*◌, ◌/◌, ◌%◌, ◌^◌, Bool, cond, ◌&&◌, ◌||◌, List, [], ◌∷◌, ◌++◌, map, eqb, leb, ℤ, pos, nat_abs, ◌+ℤ◌, ◌-ℤ◌, ◌*ℤ◌, Float, Option, drop, length, Result, Ok, Err}
 use Rattle.std.specs.Int.Signed.{le_z}
+use Rattle.refusal.specs.Number.{number}
+use Rattle.refusal.specs.declared.Refusal.{Refusal}
+use Rattle.refusal.specs.declared.Refusal.TheVariants.{Misplaced, Size}
 use Rattle.word.specs.Word.{nat_at, word_at, pattern_at, words_at, words_out, pattern_bytes}
 use Rattle.hexadecimal.specs.Hex.{hex_digits}
 use Rattle.word.specs.Buffer.{joined}
 use Rattle.word.specs.Format.{top}
 use Rattle.double.specs.Double.{convert, converted_number, double_value, rule_of}
-use Rattle.double.specs.declared.Converted.{Converted}
 use Rattle.double.specs.declared.Rounding.{Rounding}
 use Rattle.double.specs.declared.Rounding.TheVariants.{Down, Up, Nearest}
 use Rattle.gradient.specs.Index.{tab, all_to}
@@ -25,14 +27,9 @@ use Rattle.image.specs.Checks.{word_test}
 use Rattle.optimum.specs.Optimum.{optimum_bound}
 use Rattle.interface.specs.Tables.{symmetry_test, margin_test, total_test, least_margin, margin_of, largest_total}
 use Rattle.interface.specs.Calls.{values_of, start_of}
-use Rattle.line.specs.Line.{line_at, line_number}
-use Rattle.line.specs.declared.Line.{Line}
-use Rattle.line.specs.declared.Line.TheVariants.{Frame, Malformed, End}
+use Rattle.line.specs.Line.{line_at}
+use Rattle.line.specs.declared.Frame.{Frame}
 use Rattle.frame.specs.declared.Due.{Due}
-use Rattle.frame.specs.declared.Head.{Head}
-use Rattle.frame.specs.declared.Head.TheVariants.{Sized, Unsized}
-use Rattle.frame.specs.declared.Value.{Value}
-use Rattle.frame.specs.declared.Value.TheVariants.{Double, Fault}
 use Rattle.frame.specs.Frame.{Table, table, limit_table, count_in, due_in, frame_sizes, is_table_entry, is_input_limit, not_below_zero, converted_word, value_of, value_double}
 use Rattle.lines.specs.Lines.{size_words}
 use Rattle.sheet.specs.Sheet.{first}
@@ -246,11 +243,10 @@ module _ (v : Version) where
   abbrev pub frame_zeros : ℕ → Bool
   frame_zeros bits = (v.targets || eqb (bits / 0x1_0000_0000 % 256) 0) && eqb (bits % 65536) 0
 
-  unfoldable pub head_of : Line → Head
-  head_of End = Unsized (line_number End)
-  head_of Malformed = Unsized (line_number Malformed)
-  head_of (Frame kind row column bits) =
-      cond (eqb kind 1 && frame_zeros bits) (cond (sound (frame_sizes row column bits)) (Sized (frame_sizes row column bits)) (Unsized 3)) (Unsized 2)
+  unfoldable pub head_of : Result Frame Refusal → Result Sizes Refusal
+  head_of (Err why) = Err why
+  head_of (Ok f) =
+      cond (eqb f.kind 1 && frame_zeros f.bits) (cond (sound (frame_sizes f.row f.column f.bits)) (Ok (frame_sizes f.row f.column f.bits)) (Err Size)) (Err Misplaced)
 
   -- ---- frame: the lines due after it; without request 3 "row the motor, column 0", without request 1 neither 08 nor 09
   abbrev pub limits : ℕ → Sizes → Table
@@ -276,16 +272,16 @@ module _ (v : Version) where
   abbrev pub rounding_of : ℕ → Rounding
   rounding_of kind = cond (is_table_entry kind) (cond v.nearest Nearest Down) (cond (eqb kind 5) Down Up)
 
-  unfoldable pub word_of : Sizes → ℕ → Float → Converted
+  unfoldable pub word_of : Sizes → ℕ → Float → Option ℤ
   word_of z kind x =
       cond (is_input_limit kind) (not_below_zero (convert (rule_of (rounding_of kind)) z.b z.w x)) (convert (rule_of (rounding_of kind)) z.b z.w x)
 
-  abbrev pub value_number : Sizes → ℕ → Value → ℕ
-  value_number z kind (Double x) = converted_number (word_of z kind x)
-  value_number z kind (Fault n) = n
+  abbrev pub value_number : Sizes → ℕ → Result Float Refusal → ℕ
+  value_number z kind (Ok x) = converted_number (word_of z kind x)
+  value_number z kind (Err why) = number why
 
   -- ---- lines: a line after line 01 by its place
-  unfoldable pub line_value : Sizes → List ℕ → ℕ → Value
+  unfoldable pub line_value : Sizes → List ℕ → ℕ → Result Float Refusal
   line_value z s i = value_of (due_at z i) (line_at s (23 * (i + 1)))
 
   abbrev pub line_double : Sizes → List ℕ → ℕ → Float
@@ -308,13 +304,13 @@ module _ (v : Version) where
   lines_words z s = size_words z ++ tab (line_word z s) (total z)
 
   -- (this one has the name `head_number` today, as image's has)
-  abbrev pub after_head : Head → List ℕ → ℕ
-  after_head (Sized z) s = lines_number z s
-  after_head (Unsized n) s = n
+  abbrev pub after_head : Result Sizes Refusal → List ℕ → ℕ
+  after_head (Ok z) s = lines_number z s
+  after_head (Err why) s = number why
 
-  abbrev pub head_words : Head → List ℕ → List ℤ
-  head_words (Sized z) s = lines_words z s
-  head_words (Unsized n) s = []
+  abbrev pub head_words : Result Sizes Refusal → List ℕ → List ℤ
+  head_words (Ok z) s = lines_words z s
+  head_words (Err why) s = []
 
   unfoldable pub sheet_number : List ℕ → ℕ
   sheet_number s = after_head (head_of (line_at s 0)) s
@@ -351,16 +347,16 @@ module _ (v : Version) where
   abbrev pub lines_page : Sizes → List ℕ → List ℕ
   lines_page z s = joined (page_line z s) (total z)
 
-  abbrev pub head_page : Head → List ℕ → List ℕ
-  head_page (Sized z) s = lines_page z s
-  head_page (Unsized n) s = []
+  abbrev pub head_page : Result Sizes Refusal → List ℕ → List ℕ
+  head_page (Ok z) s = lines_page z s
+  head_page (Err why) s = []
 
   unfoldable pub sheet_page : List ℕ → List ℕ
   sheet_page s = head_page (head_of (line_at s 0)) s
 
-  abbrev pub head_count : Head → ℕ
-  head_count (Sized z) = total z
-  head_count (Unsized n) = 0
+  abbrev pub head_count : Result Sizes Refusal → ℕ
+  head_count (Ok z) = total z
+  head_count (Err why) = 0
 
   unfoldable pub design_count : List ℕ → ℕ
   design_count s = head_count (head_of (line_at s 0))

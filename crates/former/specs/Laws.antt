@@ -1,6 +1,7 @@
 -- What document 02 says of what was before, as statements: the definitions of today against those of today but for that request. Definitions
 -- only.
-use Rattle.std.specs.Prelude.{ℕ, ◌+◌, ◌*◌, ◌/◌, ◌%◌, ◌<◌, ◌≡◌, false, cond, List, ◌++◌, leb, Float, length, take, drop}
+use Rattle.std.specs.Prelude.{ℕ, ◌+◌, ◌*◌, ◌/◌, ◌%◌, ◌<◌, ◌≡◌, false, cond, List, ◌++◌, leb, Float, length, take, drop, Result, Ok, Err}
+use Rattle.refusal.specs.declared.Refusal.{Refusal}
 use Rattle.word.specs.Word.{pattern_at, pattern_bytes}
 use Rattle.hexadecimal.specs.Hex.{hex_at}
 use Rattle.image.specs.declared.Sizes.{Sizes}
@@ -8,8 +9,7 @@ use Rattle.image.specs.Order.{or_else}
 use Rattle.image.specs.Sizes.{command_count}
 use Rattle.image.specs.Layout.{sizes_of}
 use Rattle.interface.specs.Calls.{cold_number, cold_answer, solve_number, distance_after, solve_answer}
-use Rattle.line.specs.declared.Line.{Line}
-use Rattle.line.specs.declared.Line.TheVariants.{Frame, Malformed, End}
+use Rattle.line.specs.declared.Frame.{Frame}
 use Rattle.frame.specs.Frame.{due, due_at, is_table_entry, word_of}
 use Rattle.intake.specs.Intake.{intake_number, intake_image}
 use Rattle.design_page.specs.Page.{page_number, sheet_page}
@@ -39,10 +39,9 @@ pub record SameCalls (v : Version) (image state target start : List ℕ) (room :
 
 -- ---- request 1: "With nr 0 every old sheet gives its old answer"
 -- "the fourth value byte of line 01"; 0 where that is no frame
-abbrev pub fourth_byte : Line → ℕ
-fourth_byte (Frame kind row column bits) = bits / 0x1_0000_0000 % 256
-fourth_byte Malformed = 0
-fourth_byte End = 0
+abbrev pub fourth_byte : Result Frame Refusal → ℕ
+fourth_byte (Ok f) = f.bits / 0x1_0000_0000 % 256
+fourth_byte (Err why) = 0
 
 -- what a sheet with another byte there was: 2, of "the three 0 bytes"
 pub record WasTwo (sheet state target : List ℕ) (room : ℕ) : Type 0 where

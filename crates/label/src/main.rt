@@ -29,7 +29,5 @@ fn main(rt: HostRuntime) -> io::Result<()> {
         &state[..state_size],
         &target[..target_size],
     );
-    let bytes = text.bytes;
-    let n = text.length;
-    rt.write_all(&bytes[..n])
+    rt.write_all(text.as_bytes())
 }
