@@ -13,7 +13,7 @@ use Rattle.distance.proofs.distance.Goals as goal
 
 -- the terms are those of the bytes
 terms-are : (c : After-residual_terms-t) → ResidualTermsOf c.of-whole.result.sizes c.args.image.now c.args.state.now c.args.target.now c.residual_terms-t.result
-terms-are c = rw c.of-whole.ensures at c.residual_terms-t.ensures
+terms-are c = rw c.of-whole.ensures.0 at c.residual_terms-t.ensures
 
 -- R and m
 module _ (c : After-margin) where
@@ -21,17 +21,17 @@ module _ (c : After-margin) where
   a = (goal.at.After-margin c).Start
 
   residual-is : c.residual-r.result ≡ residual (problem_of a.args.image.now) (inputs_of (sizes_of a.args.image.now) a.args.state.now a.args.target.now) (zs a.requires.0)
-  residual-is = c.residual-r.ensures ∙ image_residual a.requires.0 (c.of-whole.result.own ∙ ap sizes_of c.of-whole.ensures) (terms-are (goal.at.After-margin c).After-residual_terms-t)
+  residual-is = c.residual-r.ensures ∙ image_residual a.requires.0 c.of-whole.ensures.1 (terms-are (goal.at.After-margin c).After-residual_terms-t)
 
   margin-is : c.margin.result ≡ margin_of a.args.image.now
   unfolding margin_of
-  margin-is = (rw c.of-whole.ensures at c.margin.ensures.0) ∙ ap (λ (s : Sizes). nat_abs (least_margin s a.args.image.now)) (c.of-whole.result.own ∙ ap sizes_of c.of-whole.ensures)
+  margin-is = (rw c.of-whole.ensures.0 at c.margin.ensures.0) ∙ ap (λ (s : Sizes). nat_abs (least_margin s a.args.image.now)) c.of-whole.ensures.1
 
 pub residual_terms-t-requires : goal.residual_terms-t-requires
-residual_terms-t-requires c = rw c.of-whole.ensures (loadable c.requires.0 (c.of-whole.result.own ∙ ap sizes_of c.of-whole.ensures))
+residual_terms-t-requires c = rw c.of-whole.ensures.0 (loadable c.requires.0 c.of-whole.ensures.1)
 
 pub residual-r-requires : goal.residual-r-requires
-residual-r-requires c = image_ready c.requires.0 (c.of-whole.result.own ∙ ap sizes_of c.of-whole.ensures) (terms-are (goal.at.residual-r-requires c).After-residual_terms-t)
+residual-r-requires c = image_ready c.requires.0 c.of-whole.ensures.1 (terms-are (goal.at.residual-r-requires c).After-residual_terms-t)
 
 pub ceil_by-requires : goal.ceil_by-requires
 ceil_by-requires c =

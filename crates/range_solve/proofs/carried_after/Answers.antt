@@ -62,18 +62,18 @@ module _ (c : After-terms_with-u) where
 
   low-terms : law.HasEnd (problem_of (image d)) (inputs d) end.low c.terms_with-t.result
   unfolding problem_of
-  low-terms = has_terms d.of-whole.result.sizes (image d) (d.of-whole.result.own ∙ ap sizes_of d.of-whole.ensures) (term end.high) (with_linear (rw d.of-whole.ensures at linears.linear_ends-h.ensures.highest) (rw d.of-whole.ensures at c.terms_with-t.ensures))
+  low-terms = has_terms d.of-whole.result.sizes (image d) d.of-whole.ensures.1 (term end.high) (with_linear (rw d.of-whole.ensures.0 at linears.linear_ends-h.ensures.highest) (rw d.of-whole.ensures.0 at c.terms_with-t.ensures))
 
   high-terms : law.HasEnd (problem_of (image d)) (inputs d) end.high c.terms_with-u.result
   unfolding problem_of
-  high-terms = has_terms d.of-whole.result.sizes (image d) (d.of-whole.result.own ∙ ap sizes_of d.of-whole.ensures) (term end.low) (with_linear (rw d.of-whole.ensures at linears.linear_ends-h.ensures.lowest) (rw d.of-whole.ensures at c.terms_with-u.ensures))
+  high-terms = has_terms d.of-whole.result.sizes (image d) d.of-whole.ensures.1 (term end.low) (with_linear (rw d.of-whole.ensures.0 at linears.linear_ends-h.ensures.lowest) (rw d.of-whole.ensures.0 at c.terms_with-u.ensures))
 
   n-is : c.terms_with-t.result.n ≡ command_count (sizes_of (image d))
-  n-is = c.terms_with-t.ensures.n_is ∙ ap (λ (z : Sizes). command_count z) (d.of-whole.result.own ∙ ap sizes_of d.of-whole.ensures)
+  n-is = c.terms_with-t.ensures.n_is ∙ ap (λ (z : Sizes). command_count z) d.of-whole.ensures.1
 
 pub linear_ends-h-requires : goal.linear_ends-h-requires
 linear_ends-h-requires c =
-    rw c.of-whole.ensures (subst (λ (z : Sizes). RangeLoadable z c.args.image.now c.args.ranges.now c.args.target.now) (sym (c.of-whole.result.own ∙ ap sizes_of c.of-whole.ensures)) (law.range_loadable c.requires.0))
+    rw c.of-whole.ensures.0 (subst (λ (z : Sizes). RangeLoadable z c.args.image.now c.args.ranges.now c.args.target.now) (sym c.of-whole.ensures.1) (law.range_loadable c.requires.0))
 
 pub magnitudes_of-magnitudes-requires : goal.magnitudes_of-magnitudes-requires
 magnitudes_of-magnitudes-requires c =

@@ -28,7 +28,7 @@ module _ (c : After-matrix-m) where
   start = (goal.at.After-matrix-m c).Start
 
   matrix-of : MatrixOf start.args.image.now c.matrix-m.result
-  matrix-of = subst (λ (z : Sizes). Tabled (pos 0) (command_count z) (entry_at z start.args.image.now) c.matrix-m.result) (c.of-whole.result.own ∙ ap sizes_of c.of-whole.ensures) (rw c.of-whole.ensures at c.matrix-m.ensures)
+  matrix-of = subst (λ (z : Sizes). Tabled (pos 0) (command_count z) (entry_at z start.args.image.now) c.matrix-m.result) c.of-whole.ensures.1 (rw c.of-whole.ensures.0 at c.matrix-m.ensures)
 
 -- the n lowest and the n highest commands that the arrays hold
 module _ (e : After-command_count-n) where
@@ -48,10 +48,10 @@ module _ (e : After-command_count-n) where
   sweeps = (sizes_of a.args.image.now).sweeps
 
   carried : CarriedOf a.args.image.now a.args.ranges.now a.args.target.now a.args.start.now sweeps r
-  carried = subst (λ (k : ℕ). CarriedOf a.args.image.now a.args.ranges.now a.args.target.now a.args.start.now k r) (ap (λ (z : Sizes). z.sweeps) (c.of-whole.result.own ∙ ap sizes_of c.of-whole.ensures)) c.carried_after-r.ensures
+  carried = subst (λ (k : ℕ). CarriedOf a.args.image.now a.args.ranges.now a.args.target.now a.args.start.now k r) (ap (λ (z : Sizes). z.sweeps) c.of-whole.ensures.1) c.carried_after-r.ensures
 
   n-is : n ≡ command_count (sizes_of a.args.image.now)
-  n-is = e.command_count-n.ensures ∙ ap (λ (z : Sizes). command_count z) (c.of-whole.result.own ∙ ap sizes_of c.of-whole.ensures)
+  n-is = e.command_count-n.ensures ∙ ap (λ (z : Sizes). command_count z) c.of-whole.ensures.1
 
   twice : length a.args.answer.now ≡ 8 * n
   twice = omega (arith, n-is, a.requires.1)

@@ -1,6 +1,6 @@
 use native.Mathlib.Omega.{arith}
 use native.Mathlib.Numerals.{add-one}
-use mathlib.Core.Path.{◌≡◌, refl, sym, ap, ◌∙◌}
+use mathlib.Core.Path.{◌≡◌, refl, sym, ap}
 use mathlib.Core.List.{List}
 use Prim.Native.Nat.{ℕ, suc}
 use lib.ListN.{replicate, get_or-replicate}
@@ -37,7 +37,7 @@ module _ (c : After-bound_terms-t) where
   rows = has_rows (sizes_of (image d)) (image d) refl m (start d).requires.1
 
   rep : HasBounds (problem_of (image d)) c.bound_terms-t.result
-  rep = has_bounds d.of-whole.result.sizes (image d) (d.of-whole.result.own ∙ ap sizes_of d.of-whole.ensures) (rw d.of-whole.ensures at c.bound_terms-t.ensures)
+  rep = has_bounds d.of-whole.result.sizes (image d) d.of-whole.ensures.1 (rw d.of-whole.ensures.0 at c.bound_terms-t.ensures)
 
 -- what an iteration made
 module _ (c : After-store) where

@@ -40,13 +40,13 @@ module _ (c : After-command_terms-t) where
   rows = has_rows (sizes_of (image d)) (image d) refl m (start d).requires.1
 
   rep : HasCommands (problem_of (image d)) (inputs_of (sizes_of (image d)) (start d).args.state.now (start d).args.target.now) c.command_terms-t.result
-  rep = has_commands d.of-whole.result.sizes (image d) (d.of-whole.result.own ∙ ap sizes_of d.of-whole.ensures) (start d).args.state.now (start d).args.target.now (rw d.of-whole.ensures at c.command_terms-t.ensures)
+  rep = has_commands d.of-whole.result.sizes (image d) d.of-whole.ensures.1 (start d).args.state.now (start d).args.target.now (rw d.of-whole.ensures.0 at c.command_terms-t.ensures)
 
   chk : Checked (problem_of (image d)) (inputs_of (sizes_of (image d)) (start d).args.state.now (start d).args.target.now) (start_of (sizes_of (image d)) (start d).args.start.now)
   chk = checked (start d).requires.0
 
   n-is : c.command_terms-t.result.n ≡ command_count (sizes_of (image d))
-  n-is = c.command_terms-t.ensures.n_is ∙ ap (λ (z : Sizes). command_count z) (d.of-whole.result.own ∙ ap sizes_of d.of-whole.ensures)
+  n-is = c.command_terms-t.ensures.n_is ∙ ap (λ (z : Sizes). command_count z) d.of-whole.ensures.1
 
 -- what an iteration made
 module _ (c : After-store_z) where
@@ -76,7 +76,7 @@ module _ (c : After-store_z) where
 
 pub command_terms-t-requires : goal.command_terms-t-requires
 command_terms-t-requires c =
-    rw c.of-whole.ensures (subst (λ (z : Sizes). Loadable z c.args.image.now c.args.state.now c.args.target.now) (sym (c.of-whole.result.own ∙ ap sizes_of c.of-whole.ensures)) (loadable c.requires.0))
+    rw c.of-whole.ensures.0 (subst (λ (z : Sizes). Loadable z c.args.image.now c.args.state.now c.args.target.now) (sym c.of-whole.ensures.1) (loadable c.requires.0))
 
 pub loop-init : goal.loop-init
 loop-init c =

@@ -32,7 +32,7 @@ module _ (c : After-command_count-n) where
   n = c.command_count-n.result
 
   n-is : n ≡ command_count (sizes_of start.args.image.now)
-  n-is = c.command_count-n.ensures ∙ ap (λ (z : Sizes). command_count z) (c.of-whole.result.own ∙ ap sizes_of c.of-whole.ensures)
+  n-is = c.command_count-n.ensures ∙ ap (λ (z : Sizes). command_count z) c.of-whole.ensures.1
 
   few-n : n ≤ 16
   few-n = few start.requires.0.0.accepted 0 n n-is
@@ -40,7 +40,7 @@ module _ (c : After-command_count-n) where
 -- M is the image's
 module _ (c : After-matrix-m) where
   matrix-of : MatrixOf (start (goal.at.After-matrix-m c).After-command_count-n).args.image.now c.matrix-m.result
-  matrix-of = subst (λ (z : Sizes). Tabled (pos 0) (command_count z) (entry_at z (start (goal.at.After-matrix-m c).After-command_count-n).args.image.now) c.matrix-m.result) (c.of-whole.result.own ∙ ap sizes_of c.of-whole.ensures) (rw c.of-whole.ensures at c.matrix-m.ensures)
+  matrix-of = subst (λ (z : Sizes). Tabled (pos 0) (command_count z) (entry_at z (start (goal.at.After-matrix-m c).After-command_count-n).args.image.now) c.matrix-m.result) c.of-whole.ensures.1 (rw c.of-whole.ensures.0 at c.matrix-m.ensures)
 
 -- the n commands and the n bounds that the arrays hold
 module _ (c : After-bounds_after-e) where
@@ -60,7 +60,7 @@ module _ (c : After-bounds_after-e) where
   sweeps = (sizes_of a.args.image.now).sweeps
 
   sweeps-are : c.of-whole.result.sizes.sweeps ≡ sweeps
-  sweeps-are = ap (λ (z : Sizes). z.sweeps) (c.of-whole.result.own ∙ ap sizes_of c.of-whole.ensures)
+  sweeps-are = ap (λ (z : Sizes). z.sweeps) c.of-whole.ensures.1
 
   commands-of : CommandsOf a.args.image.now a.args.state.now a.args.target.now a.args.start.now sweeps z
   commands-of = subst (λ (k : ℕ). CommandsOf a.args.image.now a.args.state.now a.args.target.now a.args.start.now k z) sweeps-are c.commands_after-z.ensures
