@@ -16,7 +16,12 @@ pub const PAGE_ROOM: usize = 24684;
 fn design_count(drive: &[u8]) -> usize
     ensures { result ≡ design_count drive.now }
 {
-    frame::head_of(line::line_at(drive, 0)).map_or(0, |z| requires { Sound z } { z.body_count() })
+    frame::head_of(line::line_at(drive, 0)).map_or(
+        0,
+        |z|
+            requires { Sound z }
+        { z.body_count() },
+    )
 }
 
 // What the page program prints.
