@@ -1,19 +1,17 @@
 use native.Mathlib.Omega.{arith}
-use mathlib.Core.Path.{◌≡◌, sym, ap, subst, ◌∙◌}
+use mathlib.Core.Path.{◌≡◌, sym, ap, ◌∙◌}
 use mathlib.Core.List.{List, ◌++◌}
 use Prim.Native.Nat.{ℕ, ◌+◌, ◌*◌, ◌≤◌}
-use lib.ListN.{length, take, drop, replicate, length-append}
+use lib.ListN.{length, take, drop, replicate}
 use Rattle.std.proofs.lemmas.List.{length-replicate}
 use Rattle.refusal.specs.Number.{number_of}
 use lib.Seq.{take_at, length-take-le}
-use Rattle.image.specs.declared.Sizes.{Sizes}
-use Rattle.image.specs.Sizes.{Sound, Whole, command_count}
+use Rattle.image.specs.Sizes.{command_count}
 use Rattle.image.specs.Layout.{sizes_of}
-use Rattle.interface.specs.Calls.{cold_answer, answer_length, solve_number, solve_answer}
+use Rattle.interface.specs.Calls.{cold_answer, solve_answer}
 use Rattle.interface.proofs.Accept.{accepted}
 use Rattle.text.specs.Text.{lines}
 use Rattle.word_file.specs.WordFile.{file_words}
-use Rattle.label_files.specs.Files.{form_number}
 use Rattle.label_files.proofs.Form.{long}
 use Rattle.label_text.proofs.Printed.{answered, cold_passes, files_refused, handed, never, own_lines, own_number, solve_refused}
 use Rattle.label_text.proofs.image_text.Goals.{After-command_count-n, After-of-image, After-gantry_cold_start, After-gantry_solve}
@@ -21,7 +19,7 @@ use Rattle.label_text.proofs.image_text.Goals as goal
 
 -- the sizes
 own : (c : After-of-image) → c.of-image.result.sizes ≡ sizes_of c.args.bytes.now
-own c = c.of-image.result.own ∙ ap sizes_of c.of-image.ensures
+own c = c.of-image.ensures.1
 
 pub of-image-requires : goal.of-image-requires
 of-image-requires c = (accepted c.args.bytes.now c.requires).whole
@@ -30,7 +28,7 @@ pub returns-in_err-check_files : goal.returns-in_err-check_files
 returns-in_err-check_files c =
     let a = c.args in
     let why = c.in_err-check_files.field-0.0 in
-    handed why c.from_residual.result c.from_residual.ensures.1 (files_refused a.bytes.now a.state.now a.target.now why (rw (c.of-image.ensures, own (goal.at.returns-in_err-check_files c).After-of-image) at c.in_err-check_files.ensures))
+    handed why c.from_residual.result c.from_residual.ensures.1 (files_refused a.bytes.now a.state.now a.target.now why (rw (c.of-image.ensures.0, own (goal.at.returns-in_err-check_files c).After-of-image) at c.in_err-check_files.ensures))
 
 pub file_words-x-requires : goal.file_words-x-requires
 file_words-x-requires c =
@@ -84,7 +82,7 @@ pub returns-in_err-gantry_solve : goal.returns-in_err-gantry_solve
 returns-in_err-gantry_solve c =
     let a = c.args in
     let why = c.in_err-gantry_solve.field-0.0 in
-    let form = rw (c.of-image.ensures, own (goal.at.returns-in_err-gantry_solve c).After-of-image) at c.in_ok-check_files.ensures in
+    let form = rw (c.of-image.ensures.0, own (goal.at.returns-in_err-gantry_solve c).After-of-image) at c.in_ok-check_files.ensures in
     let e = ap number_of (sym c.in_err-gantry_solve.was) ∙ solved (goal.at.returns-in_err-gantry_solve c).After-gantry_solve in
     handed why c.from_residual-in_err-gantry_solve.result c.from_residual-in_err-gantry_solve.ensures.1 (solve_refused a.bytes.now a.state.now a.target.now form why e)
 
@@ -97,7 +95,7 @@ returns c =
     let out = c.gantry_solve.new.answer in
     let s = cold-words (goal.at.returns c).After-gantry_cold_start in
     let zero = ap number_of c.in_ok-gantry_solve.was in
-    let form = rw (c.of-image.ensures, own (goal.at.returns c).After-of-image) at c.in_ok-check_files.ensures in
+    let form = rw (c.of-image.ensures.0, own (goal.at.returns c).After-of-image) at c.in_ok-check_files.ensures in
     let k = lent size 136 (omega (arith, few (goal.at.returns c).After-command_count-n)) in
     let front : take size (out ++ drop size (replicate {A = ℕ} 136 0)) ≡ out = take_at out (drop size (replicate {A = ℕ} 136 0)) size (c.gantry_solve.auto.answer ∙ k) in
     let is : out ≡ solve_answer a.bytes.now (file_words z.nx a.state.now) (file_words z.nr a.target.now) (cold_answer a.bytes.now)
