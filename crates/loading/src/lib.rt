@@ -14,7 +14,8 @@ use bounds::BoundTerms;
 use commands::CommandTerms;
 use image::{Image, Input};
 
-// The limits of the image's commands.
+// The limits of the image's commands. Not inlined, as terms_with is not: both are made more than once in a solve's frame, whose stack is bounded.
+#[inline(never)]
 pub fn limits_of(image: &Image) -> Limits
     ensures { LimitsOf image.now.sizes image.now.bytes.now result }
 {
@@ -63,6 +64,7 @@ fn linear_terms(image: &Image, state: &[u8], target: &[u8]) -> [i64; 16]
 }
 
 // What the iterations of the commands take, with these linear terms.
+#[inline(never)]
 pub fn terms_with(image: &Image, linear: [i64; 16]) -> CommandTerms
     requires { length linear ≡ 16 }
     ensures { TermsOf image.now.sizes image.now.bytes.now (λ i. get_or linear i (pos 0)) result }
