@@ -63,7 +63,7 @@ fn point(new: i64, old: i64, momentum: u64, b: u32) -> i64
     integer::floor_div((f + beta) * new, b) - integer::floor_div(beta * old, b)
 }
 
-// The new y in place of the old, from new commands and old ones. True only where nothing changed by that, and nothing had before; false says nothing, and costs time alone.
+// The new y in place of the old, from new commands and old ones; the terms by value would stand in the stack of a range solve once more. True only where nothing changed by that, and nothing had before; false says nothing, and costs time alone.
 pub fn store_y(
     n: usize,
     b: u32,

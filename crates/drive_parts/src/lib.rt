@@ -1,4 +1,5 @@
-// The parts of a drive in the buffer that the caller lends, and the checks of that buffer.
+// The parts of a drive in the buffer that the caller lends, and the checks of that buffer. Buffer and head stay two parameters: the readers lend
+// slices and an image, but a call writes to the buffer after its checks, so a type over both would be made twice in each.
 #![tactic(auto)]
 
 ghost use Rattle.std.specs.Prelude.{◌≡◌, ◌^◌, ◌<◌, IfOk, length};

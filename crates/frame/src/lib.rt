@@ -11,7 +11,8 @@ use image::Sizes;
 use line::Frame;
 use refusal::Refusal;
 
-// The kind, row and column that a line has to have.
+// The kind, row and column that a line has to have. A kind stays the number of the text: the sheet and the page hold it so, and an enum would
+// be made of that number and turned back into it.
 #[derive(Clone, Copy)]
 pub struct Due {
     pub kind: usize,
