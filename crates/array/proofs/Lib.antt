@@ -1,2 +1,3 @@
 -- The laws that the proofs over arrays share.
 pub mod Filling
+pub mod Replacing

@@ -110,7 +110,20 @@ pub convert_unformatted : (rule : ℤ → ℕ → ℤ) (b w : ℕ) (x : Float) �
 unfolding accepted
 convert_unformatted rule b w x u = rw u
 
--- ---- a motor's limits
+-- ---- a motor's limits, by the two answers
+module _ (b w : ℕ) (l : Limits) where
+  pub limits_pair : {low high : ℤ} → convert round_up b w l.low ≡ Some low → convert round_down b w l.high ≡ Some high → Some (low, high) ≡ convert_limits b w l
+  limits_pair p q =
+      let i = convert_word round_up b w l.low p in
+      let j = convert_word round_down b w l.high q in
+      rw (i.0, j.0, i.1, j.1)
+
+  pub limits_low : convert round_up b w l.low ≡ None → None ≡ convert_limits b w l
+  limits_low p = rw (convert_refused round_up b w l.low p)
+
+  pub limits_high : {low : ℤ} → convert round_up b w l.low ≡ Some low → convert round_down b w l.high ≡ None → None ≡ convert_limits b w l
+  limits_high p q = rw ((convert_word round_up b w l.low p).0, convert_refused round_down b w l.high q)
+
 pub limits_number_lem : (b w : ℕ) (l : Limits) → limit_words_number (convert_limits b w l) ≡ limits_number b w l
 limits_number_lem b w l = go (accepted_limits b w l) (rounded round_up b l.low, rounded round_down b l.high)
   where

@@ -92,6 +92,9 @@ askable d k state target room e =
     let q = (passed (leb (held_sweeps d) (held_own d k + held_common d)) 20 0 (lit< tt) b.1).0 in
     record { placed = placed d k a.0; solves = s.0; dominant = s.1; room_is = n.1; enough = leb-true _ _ q }
 
+pub askable_found : (d : List ℕ) (k : ℕ) (state target : List ℕ) (room : ℕ) → Askable d k state target room → Found d
+askable_found d k state target room a = record { size = a.placed.size; whole = a.solves.accepted.whole }
+
 -- a solve begins with the image's length and sizes
 twice : (a b : ℕ) → or_else a (or_else a b) ≡ or_else a b
 twice a b = by (eqb a 0)
