@@ -1,6 +1,5 @@
-use Rattle.std.proofs.Common.{ap, ◌∙◌, ◌≤◌}
+use Rattle.std.proofs.Common.{◌≤◌}
 use Rattle.image.specs.Sizes.{command_count}
-use Rattle.image.specs.Layout.{sizes_of}
 use Rattle.drive.specs.Layout.{held_image, held_answer}
 use Rattle.drive.specs.Calls.{commit_drive}
 use Rattle.drive.specs.Parts.{Moved}
@@ -11,10 +10,9 @@ use Rattle.drive_commit.proofs.move_on.Goals as goal
 pub returns : goal.returns
 unfolding commit_drive
 returns c =
-    let image = c.held_image-image in
+    let z = c.held_image-image.result.sizes in
     let next = c.next_start-next in
-    let z = image.result.sizes in
-    let few : command_count z ≤ 16 = image.result.whole.sizes.n_high in
-    let moved : Moved z (held_image c.args.drive.now) (held_answer c.args.drive.now c.args.k) next.result = rw (image.ensures, c.held_answer.ensures.bytes) at next.ensures in
-    let e = next_is z _ _ next.result few moved (image.result.own ∙ ap sizes_of image.ensures) in
+    let few : command_count z ≤ 16 = c.held_image-image.result.whole.sizes.n_high in
+    let moved : Moved z (held_image c.args.drive.now) (held_answer c.args.drive.now c.args.k) next.result = rw (c.held_image-image.ensures.0, c.held_answer.ensures.bytes) at next.ensures in
+    let e = next_is z _ _ next.result few moved c.held_image-image.ensures.1 in
     cc (e, c.command_count-n.ensures)
