@@ -44,6 +44,7 @@ fn start_passes(image: &Image, start: &[u8]) -> bool
 // Checks 16 and 14, in this order.
 #[tactic(auto, unfolding(image::specs::Layout::problem_of))]
 pub fn check_rest(image: &Image, target: &[u8], start: &[u8]) -> Result<(), Refusal>
+    requires { image.now.sizes ≡ sizes_of image.now.bytes.now }
     ensures { number_of result ≡ first_fault (target_and_start image.now.bytes.now target.now start.now) }
 {
     if !input_passes(image, Input::Target, target) {
@@ -58,6 +59,7 @@ pub fn check_rest(image: &Image, target: &[u8], start: &[u8]) -> Result<(), Refu
 // Check 13, and these.
 #[tactic(auto, unfolding(interface::specs::Calls::call_number))]
 fn check_call(image: &Image, state: &[u8], target: &[u8], start: &[u8]) -> Result<(), Refusal>
+    requires { image.now.sizes ≡ sizes_of image.now.bytes.now }
     ensures { number_of result ≡ call_number image.now.bytes.now state.now target.now start.now }
 {
     if !input_passes(image, Input::State, state) {
@@ -87,7 +89,7 @@ pub fn check_solvable<'a>(
     start: &[u8],
 ) -> Result<Image<'a>, Refusal>
     ensures number { number_of result ≡ solvable_number bytes.now state.now target.now start.now }
-    ensures image { IfOk result (λ i. i.bytes.now ≡ bytes.now) }
+    ensures image { IfOk result (λ i. (i.bytes.now ≡ bytes.now) × (i.sizes ≡ sizes_of bytes.now)) }
 {
     let image = tables::check_image(bytes)?;
     check_call(&image, state, target, start)?;

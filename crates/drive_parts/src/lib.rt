@@ -117,7 +117,7 @@ pub fn check_place(drive: &[u8], k: usize) -> Result<(), Refusal>
 #[tactic(auto, using(drive::proofs::Accept::placed, image::proofs::Ordering::handed_on, image::proofs::Ordering::went_on), unfolding(drive::specs::Calls::parts_number))]
 pub fn check_parts(drive: &[u8], k: usize) -> Result<Image<'_>, Refusal>
     ensures number { number_of result ≡ parts_number drive.now k }
-    ensures image { IfOk result (λ i. i.bytes.now ≡ held_image drive.now) }
+    ensures image { IfOk result (λ i. (i.bytes.now ≡ held_image drive.now) × (i.sizes ≡ sizes_of (held_image drive.now))) }
 {
     check_place(drive, k)?;
     integrity::check_head(held_bytes(drive))
@@ -126,7 +126,7 @@ pub fn check_parts(drive: &[u8], k: usize) -> Result<Image<'_>, Refusal>
 // The held image.
 pub fn held_image(drive: &[u8]) -> Image<'_>
     requires { Found drive.now }
-    ensures { result.bytes.now ≡ held_image drive.now }
+    ensures { (result.bytes.now ≡ held_image drive.now) × (result.sizes ≡ sizes_of (held_image drive.now)) }
 {
     Image::of(held_bytes(drive))
 }

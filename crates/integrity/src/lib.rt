@@ -15,7 +15,7 @@ use refusal::Refusal;
 #[tactic(auto, using(image::proofs::Sized::sound_facts), unfolding(image::specs::Checks::head_number))]
 pub fn check_head(bytes: &[u8]) -> Result<Image<'_>, Refusal>
     ensures number { number_of result ≡ head_number bytes.now }
-    ensures image { IfOk result (λ i. i.bytes.now ≡ bytes.now) }
+    ensures image { IfOk result (λ i. (i.bytes.now ≡ bytes.now) × (i.sizes ≡ sizes_of bytes.now)) }
 {
     if bytes.len() < 32 {
         return Err(Refusal::Length);

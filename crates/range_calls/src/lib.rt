@@ -50,6 +50,7 @@ fn check_range_call(
     target: &[u8],
     start: &[u8],
 ) -> Result<(), Refusal>
+    requires { image.now.sizes ≡ sizes_of image.now.bytes.now }
     ensures { number_of result ≡ range_call_number image.now.bytes.now ranges.now target.now start.now }
 {
     if !ranges_pass(image, ranges) {
@@ -67,7 +68,7 @@ fn check_range_solvable<'a>(
     start: &[u8],
 ) -> Result<Image<'a>, Refusal>
     ensures number { number_of result ≡ range_solvable_number bytes.now ranges.now target.now start.now }
-    ensures image { IfOk result (λ i. i.bytes.now ≡ bytes.now) }
+    ensures image { IfOk result (λ i. (i.bytes.now ≡ bytes.now) × (i.sizes ≡ sizes_of bytes.now)) }
 {
     let image = tables::check_image(bytes)?;
     check_range_call(&image, ranges, target, start)?;

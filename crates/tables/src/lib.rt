@@ -43,7 +43,7 @@ pub fn check_tables(image: &Image) -> Result<(), Refusal>
 #[tactic(auto, using(image::proofs::Ordering::handed_on, image::proofs::Ordering::went_on), unfolding(interface::specs::Tables::image_number))]
 pub fn check_image(bytes: &[u8]) -> Result<Image<'_>, Refusal>
     ensures number { number_of result ≡ image_number bytes.now }
-    ensures image { IfOk result (λ i. i.bytes.now ≡ bytes.now) }
+    ensures image { IfOk result (λ i. (i.bytes.now ≡ bytes.now) × (i.sizes ≡ sizes_of bytes.now)) }
 {
     let image = integrity::check_head(bytes)?;
     integrity::check_body(&image)?;
