@@ -31,17 +31,17 @@ fn largest_limit(image: &Image, k: usize) -> u64
 
 // w of command k: its high less its low.
 #[tactic(auto, unfolding(gradient::specs::Bounds::width, image::specs::Layout::command_at))]
-pub fn limit_width(image: &[u8], z: Sizes, k: usize) -> u64
-    requires { Whole z image.now × (k < command_count z) }
-    ensures { (result ≡ width (command_at z image.now k)) × (result < 2 ^ 32) }
+pub fn limit_width(image: &Image, k: usize) -> u64
+    requires { k < command_count image.now.sizes }
+    ensures { (result ≡ width (command_at image.now.sizes image.now.bytes.now k)) × (result < 2 ^ 32) }
 {
     image.upper_at(k).abs_diff(image.lower_at(k))
 }
 
 // zb + β × x / 2^b of command k: P with zb as x, Y with w.
-fn range_bound(image: &[u8], z: Sizes, k: usize, x: u64) -> u64
-    requires { Whole z image.now × (k < command_count z) × (x < 2 ^ 32) }
-    ensures { result ≡ magnitude (command_at z image.now k) + ceil (nat_abs (momentum_at z image.now) * x) (2 ^ z.b) }
+fn range_bound(image: &Image, k: usize, x: u64) -> u64
+    requires { (k < command_count image.now.sizes) × (x < 2 ^ 32) }
+    ensures { result ≡ magnitude (command_at image.now.sizes image.now.bytes.now k) + ceil (nat_abs (momentum_at image.now.sizes image.now.bytes.now) * x) (2 ^ image.now.sizes.b) }
 {
     let m = momentum_size(image);
     let l = largest_limit(image, k);
