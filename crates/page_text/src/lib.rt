@@ -33,6 +33,6 @@ pub fn page(drive: &[u8]) -> Text<PAGE_ROOM>
     let mut page = [0; PAGE_ROOM];
     match gantry::gantry_page(drive, &mut page[..size]) {
         Ok(()) => Text::new(page, size),
-        Err(why) => Text::refused(why),
+        Err(why) => Text::refused(why.into()),
     }
 }

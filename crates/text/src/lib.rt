@@ -2,7 +2,6 @@
 #![tactic(auto)]
 
 ghost use Rattle.std.specs.Prelude.{◌≡◌, ◌+◌, ◌*◌, ◌≤◌, length, take};
-ghost use Rattle.refusal.specs.Number.{number};
 ghost use Rattle.word.specs.Buffer.{put_at};
 ghost use Rattle.text.specs.Text.{distance_digits, line_of, lines, refusal, written};
 
@@ -39,12 +38,12 @@ impl<const N: usize> Text<N> {
     }
 
     // The line of a refusal.
-    pub fn refused(why: Refusal) -> Self
+    pub fn refused(number: u32) -> Self
         requires { 11 ≤ N }
-        ensures { result ≡ refusal (number why) }
+        ensures { result ≡ refusal number }
     {
         let mut bytes = [0; N];
-        put_refusal(&mut bytes, why);
+        put_refusal(&mut bytes, number);
         Text { bytes, len: 11 }
     }
 
@@ -55,7 +54,7 @@ impl<const N: usize> Text<N> {
     {
         match text {
             Ok(text) => text,
-            Err(why) => Self::refused(why),
+            Err(why) => Self::refused(why.into()),
         }
     }
 
@@ -107,11 +106,10 @@ pub fn lines_of(answer: &[u8], n: usize) -> Text<LABEL_ROOM>
 }
 
 // The line of a refusal, in front of a buffer. No `write!`: it promises its bytes only where it answers Ok, which no writer promises.
-pub fn put_refusal(out: &mut [u8], why: Refusal)
+pub fn put_refusal(out: &mut [u8], number: u32)
     requires { 11 ≤ length out.old }
-    ensures { out.new ≡ put_at out.old 0 (refusal (number why)) }
+    ensures { out.new ≡ put_at out.old 0 (refusal number) }
 {
-    let number = u32::from(why);
     out[..8].copy_from_slice(b"refused ");
     out[8] = (48 + number / 10 % 10) as u8;
     out[9] = (48 + number % 10) as u8;

@@ -5,6 +5,7 @@ use lib.ListN.{length, take, drop, replicate}
 use lib.Seq.{length-take-le, take_at}
 use Rattle.std.proofs.lemmas.List.{length-replicate}
 use Rattle.refusal.specs.Number.{number_of}
+use Rattle.text.specs.Text.{refusal}
 use Rattle.design_page.specs.Page.{design_count, page_number}
 use Rattle.design_page.proofs.Length.{count_high}
 use Rattle.page_text.proofs.Printed.{accepted, refused}
@@ -35,4 +36,4 @@ returns-in-Ok c =
 pub returns-in-Err : goal.returns-in-Err
 returns-in-Err c =
     let n = number_is (goal.at.returns-in-Err c).After-gantry_page in
-    c.refused.ensures ∙ refused c.args.drive.now c.in-Err.why (rw c.in-Err.is at n)
+    c.refused.ensures ∙ ap refusal c.into.ensures ∙ refused c.args.drive.now c.in-Err.why (rw c.in-Err.is at n)

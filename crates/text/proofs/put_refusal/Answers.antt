@@ -3,7 +3,6 @@ use mathlib.Core.Path.{◌≡◌, refl, ap, ◌∙◌}
 use mathlib.Core.List.{List, [], ◌∷◌, ◌++◌}
 use Prim.Native.Nat.{ℕ, ◌+◌, ◌/◌, ◌%◌, ◌≤◌}
 use lib.ListN.{length, set}
-use Rattle.refusal.specs.Number.{number}
 use Rattle.word.specs.Ascii.{ascii}
 use Rattle.word.specs.Buffer.{put_at}
 use Rattle.word.specs.Digits.{digits_be}
@@ -24,4 +23,4 @@ by_steps s n h =
 
 pub returns : goal.returns
 unfolding put_at
-returns c = rw (c.copy_from_slice.ensures.after, c.from-number.ensures) (by_steps c.args.out.now (number c.args.why) c.requires)
+returns c = rw c.copy_from_slice.ensures.after (by_steps c.args.out.now c.args.number c.requires)

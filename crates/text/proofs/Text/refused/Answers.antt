@@ -2,9 +2,8 @@ use Prim.Native.Nat.{ℕ}
 use mathlib.Core.Path.{ap, ◌∙◌}
 use lib.ListN.{take}
 use Rattle.std.proofs.lemmas.List.{length-replicate}
-use Rattle.refusal.specs.Number.{number}
 use Rattle.text.proofs.Written.{front_refusal}
 use Rattle.text.proofs.Text.refused.Goals as goal
 
 pub returns : goal.returns
-returns g c = ap (take 11) c.put_refusal.ensures ∙ front_refusal _ (number c.args.why) (rw (length-replicate {A = ℕ} g.row.N 0) c.requires)
+returns g c = ap (take 11) c.put_refusal.ensures ∙ front_refusal _ c.args.number (rw (length-replicate {A = ℕ} g.row.N 0) c.requires)
