@@ -54,9 +54,9 @@ module _ (image state target : List ℕ) where
   own_lines z = lines (command_count z) (solve_answer image (file_words z.nx state) (file_words z.nr target) (cold_answer image)) (command_count z)
 
   module _ (form : 0 ≡ form_number (sizes_of image) image state target) where
-    pub solve_refused : (why : Refusal) → number why ≡ own_number (sizes_of image) → refusal (number why) ≡ image_text image state target
+    pub solve_refused : (n : ℕ) → n ≡ own_number (sizes_of image) → (n ≡ 0 → ⊥) → refusal n ≡ image_text image state target
     unfolding image_text files_number
-    solve_refused why e = rw (← form, ← e, ne_eqb (number why) 0 (never why))
+    solve_refused n e h = rw (← form, ← e, ne_eqb n 0 h)
 
     pub answered : 0 ≡ own_number (sizes_of image) → own_lines (sizes_of image) ≡ image_text image state target
     unfolding image_text files_number
@@ -64,9 +64,9 @@ module _ (image state target : List ℕ) where
 
 -- ---- the sheet's number
 module _ (drive state target : List ℕ) where
-  pub sheet_refused : (why : Refusal) → number why ≡ intake_number drive (length (intake_image drive)) → refusal (number why) ≡ label_text drive state target
+  pub sheet_refused : (n : ℕ) → n ≡ intake_number drive (length (intake_image drive)) → (n ≡ 0 → ⊥) → refusal n ≡ label_text drive state target
   unfolding label_text
-  sheet_refused why e = rw (← e, ne_eqb (number why) 0 (never why))
+  sheet_refused n e h = rw (← e, ne_eqb n 0 h)
 
   pub sheet_accepted : 0 ≡ intake_number drive (length (intake_image drive)) → image_text (intake_image drive) state target ≡ label_text drive state target
   unfolding label_text

@@ -1,11 +1,11 @@
 // What the label program prints, from the bytes of its files.
 #![tactic(auto)]
 
-ghost use Rattle.std.specs.Prelude.{◌≡◌, length, IfOk};
+ghost use Rattle.std.specs.Prelude.{◌≡◌, ◌≤◌, length, IfOk};
 ghost use Rattle.refusal.specs.Number.{number_of};
 ghost use Rattle.interface.specs.Tables.{image_number};
 ghost use Rattle.intake.specs.Intake.{intake_image, intake_number};
-ghost use Rattle.text.specs.Text.{written};
+ghost use Rattle.text.specs.Text.{text_room, written};
 ghost use Rattle.label_text.specs.Label.{target_count, image_text, label_text};
 
 use image::Image;
@@ -69,7 +69,8 @@ fn drive_text(drive: &[u8], state: &[u8], target: &[u8]) -> Result<Text<LABEL_RO
 
 // What the label program prints.
 pub fn label(drive: &[u8], state: &[u8], target: &[u8]) -> Text<LABEL_ROOM>
-    ensures { result ≡ label_text drive.now state.now target.now }
+    ensures text { result ≡ label_text drive.now state.now target.now }
+    ensures room { length result ≤ text_room }
 {
     Text::written(drive_text(drive, state, target))
 }

@@ -1,7 +1,7 @@
 // What the page program prints, from the bytes of its file.
 #![tactic(auto)]
 
-ghost use Rattle.std.specs.Prelude.{◌≡◌};
+ghost use Rattle.std.specs.Prelude.{◌≡◌, ◌≤◌, length};
 ghost use Rattle.image.specs.Sizes.{Sound};
 ghost use Rattle.design_page.specs.Page.{design_count};
 ghost use Rattle.page_text.specs.Text.{page_text};
@@ -27,7 +27,8 @@ fn design_count(drive: &[u8]) -> usize
 // What the page program prints.
 #[tactic(auto, using(design_page::proofs::Length::count_high))]
 pub fn page(drive: &[u8]) -> Text<PAGE_ROOM>
-    ensures { result ≡ page_text drive.now }
+    ensures text { result ≡ page_text drive.now }
+    ensures room { length result ≤ 24684 }
 {
     let size = 44 * design_count(drive);
     let mut page = [0; PAGE_ROOM];

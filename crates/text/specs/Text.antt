@@ -34,3 +34,7 @@ printed number text = cond (eqb number 0) text (refusal number)
 abbrev pub written : Result (List ℕ) Refusal → List ℕ
 written (Ok text) = text
 written (Err why) = refusal (number why)
+
+-- room for the longest label: 16 lines of 35 bytes
+abbrev pub text_room : ℕ
+text_room = 560

@@ -3,7 +3,7 @@
 
 ghost use Rattle.std.specs.Prelude.{◌≡◌, ◌+◌, ◌*◌, ◌≤◌, length, take};
 ghost use Rattle.word.specs.Buffer.{put_at};
-ghost use Rattle.text.specs.Text.{distance_digits, line_of, lines, refusal, written};
+ghost use Rattle.text.specs.Text.{distance_digits, line_of, lines, refusal, text_room, written};
 
 use refusal::Refusal;
 use std::marker::Model;
@@ -32,7 +32,8 @@ impl<const N: usize> Text<N> {
     // The front of an array.
     pub fn new(bytes: [u8; N], len: usize) -> Self
         requires { len ≤ N }
-        ensures { result ≡ take len bytes.entry }
+        ensures text { result ≡ take len bytes.entry }
+        ensures room { length result ≤ N }
     {
         Text { bytes, len }
     }
@@ -40,7 +41,8 @@ impl<const N: usize> Text<N> {
     // The line of a refusal.
     pub fn refused(number: u32) -> Self
         requires { 11 ≤ N }
-        ensures { result ≡ refusal number }
+        ensures text { result ≡ refusal number }
+        ensures room { length result ≤ N }
     {
         let mut bytes = [0; N];
         put_refusal(&mut bytes, number);
@@ -50,16 +52,21 @@ impl<const N: usize> Text<N> {
     // A text, or the line of why there is none.
     pub fn written(text: Result<Self, Refusal>) -> Self
         requires { 11 ≤ N }
-        ensures { result ≡ written text.entry }
+        ensures text { result ≡ written text.entry }
+        ensures room { length result ≤ N }
     {
         match text {
-            Ok(text) => text,
+            Ok(text) => {
+                let _ = &text.len; // which opens the text, for its room
+                text
+            }
             Err(why) => Self::refused(why.into()),
         }
     }
 
     pub fn as_bytes(&self) -> &[u8]
-        ensures { result.now ≡ self.now }
+        ensures text { result.now ≡ self.now }
+        ensures room { length result.now ≤ N }
     {
         &self.bytes[..self.len]
     }
@@ -88,7 +95,8 @@ fn put_line(out: &mut [u8], at: usize, command: u64, bound: u64, digits: usize, 
 // The lines of an answer: n commands, then their bounds, then D.
 pub fn lines_of(answer: &[u8], n: usize) -> Text<LABEL_ROOM>
     requires { (n ≤ 16) × (length answer.now ≡ 8 * n + 8) }
-    ensures { result ≡ lines n answer.now n }
+    ensures text { result ≡ lines n answer.now n }
+    ensures room { length result ≤ text_room }
 {
     let d = word::pattern_at(answer, 8 * n);
     let digits = distance_digits(d);

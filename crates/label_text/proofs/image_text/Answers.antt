@@ -4,7 +4,7 @@ use mathlib.Core.List.{List, ◌++◌}
 use Prim.Native.Nat.{ℕ, ◌+◌, ◌*◌, ◌≤◌}
 use lib.ListN.{length, take, drop, replicate}
 use Rattle.std.proofs.lemmas.List.{length-replicate}
-use Rattle.refusal.specs.Number.{number_of}
+use Rattle.refusal.specs.Number.{number, number_of}
 use lib.Seq.{take_at, length-take-le}
 use Rattle.image.specs.Sizes.{command_count}
 use Rattle.image.specs.Layout.{sizes_of}
@@ -84,7 +84,7 @@ returns-in_err-gantry_solve c =
     let why = c.in_err-gantry_solve.field-0.0 in
     let form = rw (c.of-image.ensures.0, own (goal.at.returns-in_err-gantry_solve c).After-of-image) at c.in_ok-check_files.ensures in
     let e = ap number_of (sym c.in_err-gantry_solve.was) ∙ solved (goal.at.returns-in_err-gantry_solve c).After-gantry_solve in
-    handed why c.from_residual-in_err-gantry_solve.result c.from_residual-in_err-gantry_solve.ensures.1 (solve_refused a.bytes.now a.state.now a.target.now form why e)
+    handed why c.from_residual-in_err-gantry_solve.result c.from_residual-in_err-gantry_solve.ensures.1 (solve_refused a.bytes.now a.state.now a.target.now form (number why) e (never why))
 
 pub returns : goal.returns
 returns c =
@@ -100,7 +100,7 @@ returns c =
     let front : take size (out ++ drop size (replicate {A = ℕ} 136 0)) ≡ out = take_at out (drop size (replicate {A = ℕ} 136 0)) size (c.gantry_solve.auto.answer ∙ k) in
     let is : out ≡ solve_answer a.bytes.now (file_words z.nx a.state.now) (file_words z.nr a.target.now) (cold_answer a.bytes.now)
     = rw (zero, c.file_words-x.ensures.1, c.file_words-r.ensures.1, s) at c.gantry_solve.ensures.bytes in
-    c.lines_of.ensures
+    c.lines_of.ensures.text
     ∙ ap (λ (answer : List ℕ). lines n answer n) (front ∙ is)
     ∙ rw c.command_count-n.ensures (ap (own_lines a.bytes.now a.state.now a.target.now) (own (goal.at.returns c).After-of-image))
     ∙ answered a.bytes.now a.state.now a.target.now form (sym zero ∙ solved (goal.at.returns c).After-gantry_solve)

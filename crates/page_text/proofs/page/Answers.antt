@@ -4,7 +4,8 @@ use Prim.Native.Nat.{ℕ, ◌*◌, ◌≤◌}
 use lib.ListN.{length, take, drop, replicate}
 use lib.Seq.{length-take-le, take_at}
 use Rattle.std.proofs.lemmas.List.{length-replicate}
-use Rattle.refusal.specs.Number.{number_of}
+use Rattle.refusal.specs.Number.{number, number_of}
+use Rattle.refusal.proofs.Numbers.{above_zero}
 use Rattle.text.specs.Text.{refusal}
 use Rattle.design_page.specs.Page.{design_count, page_number}
 use Rattle.design_page.proofs.Length.{count_high}
@@ -24,16 +25,23 @@ number_is c =
     c.gantry_page.ensures.number
     ∙ ap (page_number c.args.drive.now) (lent (goal.at.After-gantry_page c).After-design_count-size ∙ ap (λ (k : ℕ). 44 * k) c.design_count-size.ensures)
 
-pub returns-in-Ok : goal.returns-in-Ok
-returns-in-Ok c =
+pub returns-in-Ok-clause-text : goal.returns-in-Ok-clause-text
+returns-in-Ok-clause-text c =
     let size = 44 * c.design_count-size.result in
-    let n = number_is (goal.at.returns-in-Ok c).After-gantry_page in
-    c.new.ensures
-    ∙ take_at c.gantry_page.new.page (drop size (replicate {A = ℕ} 24684 0)) size (c.gantry_page.auto.page ∙ lent (goal.at.returns-in-Ok c).After-design_count-size)
+    let n = number_is (goal.at.returns-in-Ok-clause-text c).After-gantry_page in
+    c.new.ensures.text
+    ∙ take_at c.gantry_page.new.page (drop size (replicate {A = ℕ} 24684 0)) size (c.gantry_page.auto.page ∙ lent (goal.at.returns-in-Ok-clause-text c).After-design_count-size)
     ∙ c.in-Ok.ensures.bytes
     ∙ accepted c.args.drive.now (rw c.in-Ok.is at n)
 
-pub returns-in-Err : goal.returns-in-Err
-returns-in-Err c =
-    let n = number_is (goal.at.returns-in-Err c).After-gantry_page in
-    c.refused.ensures ∙ ap refusal c.into.ensures ∙ refused c.args.drive.now c.in-Err.why (rw c.in-Err.is at n)
+pub returns-in-Err-clause-text : goal.returns-in-Err-clause-text
+returns-in-Err-clause-text c =
+    let n = number_is (goal.at.returns-in-Err-clause-text c).After-gantry_page in
+    let why = c.in-Err.why in
+    c.refused.ensures.text ∙ ap refusal c.into.ensures ∙ refused c.args.drive.now (number why) (rw c.in-Err.is at n) (λ (q : number why ≡ 0). omega (arith, above_zero why))
+
+pub returns-in-Ok-clause-room : goal.returns-in-Ok-clause-room
+returns-in-Ok-clause-room c = c.new.ensures.room
+
+pub returns-in-Err-clause-room : goal.returns-in-Err-clause-room
+returns-in-Err-clause-room c = c.refused.ensures.room

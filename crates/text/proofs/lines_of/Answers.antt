@@ -6,6 +6,7 @@ use mathlib.Core.Path.{◌≡◌, refl, ap, subst, ◌∙◌}
 use mathlib.Core.List.{List, ◌++◌}
 use Prim.Native.Nat.{ℕ, ◌+◌, ◌*◌, ◌≤◌}
 use lib.ListN.{take}
+use Rattle.std.proofs.lemmas.List.{length-take}
 use Rattle.word.specs.Buffer.{joined}
 use Rattle.word.specs.Word.{nat_at, pattern_at}
 use Rattle.word.proofs.Buffer.{front_put}
@@ -58,9 +59,14 @@ overflow_mul-result c =
 pub invariant_of-result : goal.invariant_of-result
 invariant_of-result c = within c.distance_digits-digits.result c.args.n c.distance_digits-digits.ensures.1 c.requires.0
 
-pub returns : goal.returns
-returns c =
+pub returns-clause-text : goal.returns-clause-text
+returns-clause-text c =
     let a = c.args in
     let l = c.loop-k in
     let e : l.k ≡ a.n = omega arith in
     subst (λ (k : ℕ). take ((19 + c.distance_digits-digits.result) * k) l.bytes ≡ lines a.n a.answer.now k) e l.invariant.1
+
+pub returns-clause-room : goal.returns-clause-room
+returns-clause-room c =
+    let size = (19 + c.distance_digits-digits.result) * c.args.n in
+    omega (arith, length-take size c.loop-k.bytes, within c.distance_digits-digits.result c.args.n c.distance_digits-digits.ensures.1 c.requires.0)
