@@ -1,14 +1,36 @@
--- The lines due. Assumes nothing.
-use mathlib.Core.Path.{◌≡◌}
-use mathlib.Core.Bool.{cond}
+-- Line 01, and the lines due. Assumes nothing.
+use mathlib.Core.Path.{◌≡◌, sym, ap, ◌∙◌}
+use mathlib.Core.Bool.{Bool, true, false, cond}
 use Prim.Native.Nat.{ℕ, ◌+◌, ◌-◌, ◌*◌, ◌/◌, ◌%◌, ◌≤◌, ◌<◌}
 use native.Mathlib.Nat.{mul-one, div-one, mod-one}
 use native.Mathlib.Omega.{arith}
 use lib.Dec.{ltb}
-use borrow.Author.Tests.{lt-ltb, le-ltb}
+use borrow.Author.Tests.{eq-eqb, ne_eqb, lt-ltb, le-ltb}
 use Rattle.image.specs.declared.Sizes.{Sizes}
-use Rattle.image.specs.Sizes.{command_count, body_count, Sound}
-use Rattle.frame.specs.Frame.{due, due_at, total}
+use Rattle.image.specs.Sizes.{command_count, body_count, sound, Sound}
+use Rattle.std.specs.Prelude.{Result, Ok, Err}
+use Rattle.refusal.specs.declared.Refusal.{Refusal}
+use Rattle.refusal.specs.declared.Refusal.TheVariants.{Misplaced, Size}
+use Rattle.line.specs.declared.Frame.{Frame}
+use Rattle.frame.specs.Frame.{due, due_at, frame_sizes, head_of, total}
+
+-- ---- line 01: what each of its tests gives
+pub head_kind : (l : Result Frame Refusal) (k r c n : ℕ) → l ≡ Ok (record { kind = k; row = r; column = c; bits = n }) → (k ≡ 1 → ⊥) → Err Misplaced ≡ head_of l
+unfolding head_of
+head_kind l k r c n e h = rw (e, ne_eqb k 1 h)
+
+pub head_tail : (l : Result Frame Refusal) (k r c n : ℕ) → l ≡ Ok (record { kind = k; row = r; column = c; bits = n }) → k ≡ 1 → (n % 65536 ≡ 0 → ⊥) → Err Misplaced ≡ head_of l
+unfolding head_of
+head_tail l k r c n e h t = rw (e, eq-eqb k 1 h, ne_eqb (n % 65536) 0 t)
+
+module _ (l : Result Frame Refusal) (k r c n : ℕ) (z : Sizes) (b : Bool) (e : l ≡ Ok (record { kind = k; row = r; column = c; bits = n })) (h : k ≡ 1) (t : n % 65536 ≡ 0) (is : z ≡ frame_sizes r c n) (q : b ≡ sound z) where
+  pub head_sized : b ≡ true → Ok z ≡ head_of l
+  unfolding head_of
+  head_sized y = rw (e, eq-eqb k 1 h, eq-eqb (n % 65536) 0 t, ap sound (sym is) ∙ sym q ∙ y) (ap Ok is)
+
+  pub head_unsound : b ≡ false → Err Size ≡ head_of l
+  unfolding head_of
+  head_unsound y = rw (e, eq-eqb k 1 h, eq-eqb (n % 65536) 0 t, ap sound (sym is) ∙ sym q ∙ y)
 
 -- ---- the lines due
 

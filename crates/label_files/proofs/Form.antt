@@ -6,7 +6,7 @@ use Prim.Native.Nat.{ℕ, ◌*◌, ◌≤◌}
 use native.Mathlib.Omega.{arith}
 use lib.Dec.{eqb, lit<}
 use lib.ListN.{length}
-use borrow.Author.Tests.{eqb-true, eqb-false, ne_eqb}
+use borrow.Author.Tests.{eqb-true, eqb-false, eq-eqb, ne_eqb}
 use Rattle.image.proofs.Ordering.{passed}
 use Rattle.image.specs.declared.Sizes.{Sizes}
 use Rattle.image.specs.declared.Input.TheVariants.{State}
@@ -17,6 +17,10 @@ use Rattle.label_files.specs.Files.{form_number, target_form}
 
 -- ---- the target's form
 module _ (nr : ℕ) (target : List ℕ) where
+  pub none_due : nr ≡ 0 → target_form nr target ≡ true
+  unfolding target_form
+  none_due e = rw (eq-eqb nr 0 e)
+
   pub some_due : (nr ≡ 0 → ⊥) → target_form nr target ≡ is_word_file nr target
   unfolding target_form
   some_due h = rw (ne_eqb nr 0 h)
@@ -52,6 +56,19 @@ module _ (z : Sizes) (image state target : List ℕ) where
   pub malformed : state_form ≡ false → form_number z image state target ≡ 13
   unfolding form_number
   malformed f = rw f
+
+  -- whatever the target
+  pub beyond : state_form ≡ true → state_limits ≡ false → form_number z image state target ≡ 13
+  unfolding form_number
+  beyond f l = rw (f, l)
+
+  pub mistargeted : state_form ≡ true → state_limits ≡ true → target_form z.nr target ≡ false → form_number z image state target ≡ 16
+  unfolding form_number
+  mistargeted f l t = rw (f, l, t)
+
+  pub formed : state_form ≡ true → state_limits ≡ true → target_form z.nr target ≡ true → form_number z image state target ≡ 0
+  unfolding form_number
+  formed f l t = rw (f, l, t)
 
   pub by_tests : form_number z image state target ≡ in_order state_form state_limits (target_form z.nr target)
   unfolding form_number

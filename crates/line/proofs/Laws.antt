@@ -7,9 +7,9 @@ use native.Mathlib.Nat.{add-zero}
 use native.Mathlib.Omega.{arith}
 use lib.Dec.{leb, ltb}
 use lib.Seq.{get_or-take}
-use borrow.Author.Tests.{le-leb, lt-leb, leb-true, leb-false, ltb-true, ltb-false}
-use lib.ListN.{length, take, length-take, get_or-eq_default}
-use Rattle.std.specs.Prelude.{Result, Ok, Err}
+use borrow.Author.Tests.{le-leb, lt-leb, ne_eqb, leb-true, leb-false, ltb-true, ltb-false}
+use lib.ListN.{length, get_or, take, length-take, get_or-eq_default}
+use Rattle.std.specs.Prelude.{◌≢◌, Result, Ok, Err}
 use Rattle.refusal.specs.declared.Refusal.{Refusal}
 use Rattle.refusal.specs.declared.Refusal.TheVariants.{Malformed, Count}
 use Rattle.line.specs.declared.Frame.{Frame}
@@ -48,6 +48,13 @@ module _ (s : List ℕ) (at : ℕ) where
 -- "a cut line" is no frame
 pub cut_frame : (s : List ℕ) (at : ℕ) → length s < at + 23 → is_frame s at ≡ false
 cut_frame s at h = rw (get_or-eq_default s 0 {n = at + 22} (omega arith)) (and-false (hexes 22 s at))
+
+-- a line that another byte ends, in the two forms that `line_at` ensures
+pub no_end : (s : List ℕ) (at : ℕ) → at < length s → get_or s (at + 22) 0 ≢ 10 → Err Malformed ≡ line_at s at
+no_end s at l h = no_frame s at l (rw (ne_eqb (get_or s (at + 22) 0) 10 h) (and-false (hexes 22 s at)))
+
+pub no_end_number : (s : List ℕ) (at : ℕ) → at < length s → get_or s (at + 22) 0 ≢ 10 → 1 ≡ number_at s at
+no_end_number s at l h = ap line_number (no_end s at l h) ∙ line_number_lem s at
 
 -- what a line has that neither case without a frame has
 pub framed : (P : Result Frame Refusal → Type 0) (s : List ℕ) (at : ℕ) → (P (Err Count) → ⊥) → (P (Err Malformed) → ⊥) → P (line_at s at) → (is_frame s at ≡ true) × P (Ok (frame_at s at))

@@ -1,5 +1,5 @@
 -- The least and the largest of a list by index. Assumes nothing.
-use mathlib.Core.Path.{◌≡◌}
+use mathlib.Core.Path.{◌≡◌, ap}
 use mathlib.Core.Bool.{Bool, true, false, cond}
 use Prim.Native.Nat.{ℕ, zero, suc, ◌+◌, ◌-◌, ◌≤◌}
 use native.Mathlib.Omega.{arith}
@@ -26,6 +26,20 @@ module _ (P : ℤ → Type 0) (f : ℕ → ℤ) where
   largest_one zero h = h 0 (omega arith)
   largest_one (suc n) h = either P (le_z (f (suc n)) (largest_to f n)) (largest_to f n) (f (suc n)) (largest_one n (λ i l. h i (omega arith))) (h (suc n) (omega arith))
 
+-- the step of a loop that has been through f 0 .. f (i - 1)
+turn : (i : ℕ) → 1 ≤ i → i + 1 - 1 ≡ suc (i - 1)
+turn i h = omega arith
+
+same : (i : ℕ) → 1 ≤ i → suc (i - 1) ≡ i
+same i h = omega arith
+
+module _ (f : ℕ → ℤ) (i : ℕ) (h : 1 ≤ i) where
+  pub least_next : least_to f (i + 1 - 1) ≡ min_z (least_to f (i - 1)) (f i)
+  least_next = rw (turn i h) (ap (λ (k : ℕ). min_z (least_to f (i - 1)) (f k)) (same i h))
+
+  pub largest_next : largest_to f (i + 1 - 1) ≡ max_z (largest_to f (i - 1)) (f i)
+  largest_next = rw (turn i h) (ap (λ (k : ℕ). max_z (largest_to f (i - 1)) (f k)) (same i h))
+
 -- std's words for the two
 min_is : (a c : ℤ) → int_min a c ≡ min_z a c
 min_is a c = grind (arith, ints)
@@ -33,18 +47,12 @@ min_is a c = grind (arith, ints)
 max_is : (a c : ℤ) → int_max a c ≡ max_z a c
 max_is a c = grind (arith, ints)
 
--- the step of a loop that has been through f 0 .. f (i - 1), by the contracts of `min` and `max`
+-- the same step on words of 64 bits, by the contracts of `min` and `max`
 module _ (f : ℕ → ℤ) (i : ℕ) (r s v : ℤ) where
-  pub least_next : r ≡ int_min s (to_z w64 (of_z w64 v)) → s ≡ least_to f (i - 1) → v ≡ f i → SFits w64 v → SFits w64 r → 1 ≤ i
+  pub least_kept : r ≡ int_min s (to_z w64 (of_z w64 v)) → s ≡ least_to f (i - 1) → v ≡ f i → SFits w64 v → SFits w64 r → 1 ≤ i
       → to_z w64 (of_z w64 r) ≡ least_to f (i + 1 - 1)
-  least_next e p q g k h =
-      let here : suc (i - 1) ≡ i = omega arith in
-      let turn : i + 1 - 1 ≡ suc (i - 1) = omega arith in
-      rw (turn, here, to_z-of_z k, e, min_is, to_z-of_z g) (λ k. min_z (p k) (q k))
+  least_kept e p q g k h = rw (least_next f i h, to_z-of_z k, e, min_is, to_z-of_z g) (λ k. min_z (p k) (q k))
 
-  pub largest_next : r ≡ int_max s (to_z w64 (of_z w64 v)) → s ≡ largest_to f (i - 1) → v ≡ f i → SFits w64 v → SFits w64 r → 1 ≤ i
+  pub largest_kept : r ≡ int_max s (to_z w64 (of_z w64 v)) → s ≡ largest_to f (i - 1) → v ≡ f i → SFits w64 v → SFits w64 r → 1 ≤ i
       → to_z w64 (of_z w64 r) ≡ largest_to f (i + 1 - 1)
-  largest_next e p q g k h =
-      let here : suc (i - 1) ≡ i = omega arith in
-      let turn : i + 1 - 1 ≡ suc (i - 1) = omega arith in
-      rw (turn, here, to_z-of_z k, e, max_is, to_z-of_z g) (λ k. max_z (p k) (q k))
+  largest_kept e p q g k h = rw (largest_next f i h, to_z-of_z k, e, max_is, to_z-of_z g) (λ k. max_z (p k) (q k))

@@ -66,15 +66,15 @@ passing s e = by (head_of (line_at s 0)) refl
     by (Err why) h = let w : ⊥ = omega (arith, above_zero why, number_by (Err why) h) in absurd w
 
 -- ---- the answer
-pub answered_unsized : (s : List ℕ) (why : Refusal) (ws : List ℤ) → head_of (line_at s 0) ≡ Err why → Answered (sheet_number s) (sheet_words s) (number why) 0 ws
-answered_unsized s why ws h = record {
-  number_is = unfold sheet_number in rw h;
-  words_are = λ w. let n : ⊥ = omega (arith, above_zero why, w) in absurd n;
-  count_is = λ w. let n : ⊥ = omega (arith, above_zero why, w) in absurd n;
-  count_high = omega arith;
-}
-
 module _ (s : List ℕ) (n c : ℕ) (ws : List ℤ) where
+  pub answered_unsized : {why : Refusal} → head_of (line_at s 0) ≡ Err why → n ≡ number why → c ≤ 569 → Answered (sheet_number s) (sheet_words s) n c ws
+  answered_unsized {why} h e l = record {
+    number_is = unfold sheet_number in rw h e;
+    words_are = λ w. let x : ⊥ = omega (arith, above_zero why, e, w) in absurd x;
+    count_is = λ w. let x : ⊥ = omega (arith, above_zero why, e, w) in absurd x;
+    count_high = l;
+  }
+
   module _ (z : Sizes) (h : head_of (line_at s 0) ≡ Ok z) (t : Answered (lines_number z s) (lines_words z s) n c ws) where
     number_of : n ≡ sheet_number s
     unfolding sheet_number

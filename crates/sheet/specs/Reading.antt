@@ -8,7 +8,7 @@ use Rattle.lines.specs.Lines.{ReadTo}
 
 -- "The reader goes through the text line by line and the first fault decides": line 01 gave the sizes, i lines after it had no fault, the
 -- reader stands behind them, and the arrays are as far
-pub record Read (s : List ℕ) (z : Sizes) (i at : ℕ) (words : List ℤ) (lows : List Float) : Type 0 where
+pub record LinesRead (s : List ℕ) (z : Sizes) (i at : ℕ) (words : List ℤ) (lows : List Float) : Type 0 where
   pub sizes : head_of (line_at s 0) ≡ Ok z
   pub place : at ≡ 23 * (i + 1)
   pub lines : ReadTo z s i words lows

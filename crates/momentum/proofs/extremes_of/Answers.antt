@@ -1,11 +1,11 @@
 use Rattle.std.proofs.Common.{rules, arith, ◌≡◌, ◌-◌, ap, ◌∙◌}
 use Rattle.image.specs.Sizes.{command_count}
 use Rattle.interface.specs.Tables.{least_to, largest_to, margin_at, total_at, least_margin, largest_total}
-use Rattle.momentum.proofs.Least.{least_next, largest_next}
+use Rattle.momentum.proofs.Least.{least_kept, largest_kept}
 use Rattle.momentum.proofs.extremes_of.Goals as goal
 
 pub loop-i-preserved : goal.loop-i-preserved
-loop-i-preserved c = (search (rules, least_next), search (rules, largest_next))
+loop-i-preserved c = (search (rules, least_kept), search (rules, largest_kept))
 
 pub returns : goal.returns
 unfolding least_margin largest_total

@@ -48,7 +48,8 @@ module _ (c : After-loop-i) where
 pub returns-in_err-z : goal.returns-in_err-z
 returns-in_err-z c =
     let p = err_from_is_err_and c.from_residual.result c.from_residual.ensures.1 in
-    rw (p.1, p.2) (answered_unsized c.args.s.now c.in_err-z.field-0.0 c.args.words.now (sym (c.in_err-z.ensures.0 ∙ ap head_of c.next_line.ensures.line.0)))
+    let h = sym (c.in_err-z.ensures.0 ∙ ap head_of c.next_line.ensures.line.0) in
+    rw (p.1, p.2) (answered_unsized c.args.s.now (number c.in_err-z.field-0.0) 0 c.args.words.now h refl (omega arith))
 
 pub put_sizes-requires : goal.put_sizes-requires
 put_sizes-requires c = (known (goal.at.put_sizes-requires c).In_ok-z, c.requires)
