@@ -20,7 +20,7 @@ fn put_number(page: &mut [u8], s: &[u8], z: Sizes, i: usize, word: i64)
 {
     let d = frame::due_at(z, i);
     let given = frame::value_of(d, line::line_at(s, 23 * (i + 1))).unwrap_or(0.0);
-    let kept = double::to_double(word, z.b, z.w).unwrap_or(0.0);
+    let kept = double::answered(double::to_double(word, z.b, z.w));
     page_line::put_line(page, 44 * i, d, page_line::effect_of(given, kept));
 }
 

@@ -122,7 +122,7 @@ fn quotient(z: i64, b: u32) -> f64
     (z as f64) / power_of_two(b)
 }
 
-// The double of a word of w bits with b fraction bits, for any z. A refusal's is plus zero, which its caller writes.
+// The double of a word of w bits with b fraction bits, for any z. A refusal's is plus zero: `answered`.
 pub fn to_double(z: i64, b: u32, w: u32) -> Result<f64, Refusal>
     ensures answer { result ≡ double_answer b w z }
     ensures number { number_of result ≡ double_number b w z }
@@ -136,6 +136,13 @@ pub fn to_double(z: i64, b: u32, w: u32) -> Result<f64, Refusal>
         return Err(Refusal::Word);
     }
     Ok(quotient(z, b))
+}
+
+// The double that goes with an answer: plus zero with either number of a refusal.
+pub fn answered(answer: Result<f64, Refusal>) -> f64
+    ensures { result ≡ answered_value answer }
+{
+    answer.unwrap_or(0.0)
 }
 
 // The double with this bit pattern. Every NaN pattern is the one NaN, which has no pattern of its own to keep.

@@ -18,9 +18,10 @@ use Rattle.word.specs.Format.{is_format, in_word}
 use Rattle.word.proofs.Format.{format, top_high, in_word_abs}
 use Rattle.word.proofs.Buffer.{put_put, put_whole}
 use Rattle.word.proofs.Words.{length_bytes}
-use Rattle.double.specs.Double.{accepted, accepted_limits, scalable, rounded, round_up, round_down, convert_limits, double_number, HasQuotient}
+use Rattle.double.specs.Double.{accepted, accepted_limits, scalable, rounded, round_up, round_down, convert_limits, double_number, answered_value, HasQuotient}
 use Rattle.double.specs.declared.Limits.{Limits}
-use Rattle.std.specs.Prelude.{Option, Some, None}
+use Rattle.refusal.specs.declared.Refusal.{Refusal}
+use Rattle.std.specs.Prelude.{Option, Some, None, Result, Ok, Err, IfOk}
 
 -- ---- an accepted word
 pub accepted_fits : (rule : ℤ → ℕ → ℤ) (b w : ℕ) (x : Float) → accepted rule b w x ≡ true → SFits w32 (rounded rule b x)
@@ -83,6 +84,12 @@ unfolding is_nan
 quotient_no_nan nan z d q = absurd q
 quotient_no_nan (inf s) z d q = absurd q
 quotient_no_nan (fin s m e) z d q = tt
+
+-- nor is plus zero, which goes with a refusal
+pub answer_no_nan : (r : Result Float Refusal) (z : ℤ) (d : ℕ) → IfOk r (λ (x : Float). HasQuotient x z d) → T (not (is_nan (answered_value r)))
+unfolding is_nan
+answer_no_nan (Ok x) z d q = quotient_no_nan x z d q
+answer_no_nan (Err why) z d q = tt
 
 -- the number of its answer is never 15
 pub answer_below : (b w : ℕ) (z : ℤ) → eqb (double_number b w z) 15 ≡ false

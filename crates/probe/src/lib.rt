@@ -67,14 +67,10 @@ pub extern "C" fn probe_to_double(value: i64, b: u32, w: u32, out: &mut [u8]) ->
     if out.len() != 8 {
         return Refusal::Buffer.into();
     }
-    match double::to_double(value, b, w) {
-        Ok(x) => {
-            word::put_pattern(out, 0, f64::to_bits(x));
-            0
-        }
-        Err(why) => {
-            word::put_pattern(out, 0, f64::to_bits(0.0));
-            why.into()
-        }
+    let answer = double::to_double(value, b, w);
+    word::put_pattern(out, 0, f64::to_bits(double::answered(answer)));
+    match answer {
+        Ok(_) => 0,
+        Err(why) => why.into(),
     }
 }

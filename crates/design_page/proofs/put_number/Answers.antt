@@ -4,7 +4,7 @@ use lib.Ieee.{Float, binary64, of_bits}
 use Rattle.word.specs.Buffer.{put_at}
 use Rattle.std.specs.Result.{result_unwrap_or}
 use Rattle.refusal.specs.declared.Refusal.{Refusal}
-use Rattle.double.specs.Double.{answered_value, double_value}
+use Rattle.double.specs.Double.{double_value}
 use Rattle.frame.specs.declared.Due.{Due}
 use Rattle.frame.specs.Frame.{due_at, value_double}
 use Rattle.lines.specs.Lines.{line_double}
@@ -22,11 +22,6 @@ unfolding of_bits
 given-is (Ok x) = refl
 given-is (Err why) = refl
 
-kept-is : (r : Result Float Refusal) → result_unwrap_or r (of_bits binary64 0) ≡ answered_value r
-unfolding of_bits
-kept-is (Ok x) = refl
-kept-is (Err why) = refl
-
 module _ (c : After-effect_of) where
   given : c.unwrap_or-given.result ≡ line_double c.args.z c.args.s.now c.args.i
   given =
@@ -34,10 +29,9 @@ module _ (c : After-effect_of) where
       ∙ given-is c.value_of.result
       ∙ ap value_double (sym (value_is c.args.z c.args.s.now c.args.i _ _ _ c.value_of.ensures.0 c.due_at-d.ensures c.line_at.ensures.0))
 
-  kept : c.unwrap_or-kept.result ≡ word_double c.args.z c.args.s.now c.args.i
+  kept : c.answered-kept.result ≡ word_double c.args.z c.args.s.now c.args.i
   kept =
-      c.unwrap_or-kept.ensures
-      ∙ kept-is c.to_double.result
+      c.answered-kept.ensures
       ∙ c.to_double.ensures.value
       ∙ ap (double_value c.args.z.b c.args.z.w) (to_z-of_z c.ranges.word ∙ c.requires.3)
 
