@@ -1,11 +1,11 @@
 // Check 8 of a row of H, its symmetry, and what 9 to 11 take of it: its margin and its total.
 #![tactic(auto)]
 
-ghost use Rattle.std.specs.Prelude.{◌≡◌, ℕ, ℤ, ◌*◌, ◌^◌, ◌≤◌, ◌<◌, pos, nat_abs};
+ghost use Rattle.std.specs.Prelude.{◌≡◌, ℕ, ℤ, ◌*◌, ◌^◌, ◌≤◌, ◌<◌, length, pos, nat_abs};
 ghost use Rattle.dominance.specs.Others.{others_in, Answers};
 ghost use Rattle.image.specs.Sizes.{command_count};
 ghost use Rattle.image.specs.Layout.{cost_at};
-ghost use Rattle.interface.specs.Tables.{margin_at, total_at, symmetry_test};
+ghost use Rattle.interface.specs.Tables.{others_of, margin_at, total_at, symmetry_test};
 
 use image::Image;
 
@@ -49,6 +49,14 @@ pub fn others<F: Fn(usize) -> i64>(i: usize, n: usize, entry: F) -> u64
     sum
 }
 
+// That sum for row i of H, from the part of the image that starts at that row.
+fn row_others(row: &[u8], i: usize, n: usize) -> u64
+    requires { (n ≤ 16) × (4 * n ≤ length row.now) }
+    ensures { (result ≡ others_of row.now i n) × (result ≤ 2 ^ 35) }
+{
+    others(i, n, |j| word::word_at(row, 4 * j))
+}
+
 // The ends of row i's Gershgorin disc: its diagonal less the others, and plus them.
 pub fn disc_of(image: &Image, i: usize) -> Disc
     requires { i < command_count image.now.sizes }
@@ -56,11 +64,7 @@ pub fn disc_of(image: &Image, i: usize) -> Disc
 {
     let row = image.cost_row(i);
     let diagonal = word::word_at(row, 4 * i);
-    let radius = others(
-        i,
-        image.sizes.command_count(),
-        |j| word::word_at(row, 4 * j),
-    ) as i64;
+    let radius = row_others(row, i, image.sizes.command_count()) as i64;
     Disc {
         margin: diagonal - radius,
         total: diagonal + radius,
