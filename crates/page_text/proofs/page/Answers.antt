@@ -17,13 +17,13 @@ use Rattle.page_text.proofs.page.Goals as goal
 lent : (c : After-design_count-size) → length (take (44 * c.design_count-size.result) (replicate {A = ℕ} 24684 0)) ≡ 44 * c.design_count-size.result
 lent c = length-take-le (44 * c.design_count-size.result) (replicate {A = ℕ} 24684 0) (omega (arith, length-replicate {A = ℕ} 24684 0, c.design_count-size.ensures, count_high c.args.drive.now))
 
-pub slice_bounds-gantry_page-end : goal.slice_bounds-gantry_page-end
-slice_bounds-gantry_page-end c = sym (lent (goal.at.slice_bounds-gantry_page-end c).After-design_count-size)
-
 number_is : (c : After-gantry_page) → number_of c.gantry_page.result ≡ page_number c.args.drive.now (44 * design_count c.args.drive.now)
 number_is c =
     c.gantry_page.ensures.number
     ∙ ap (page_number c.args.drive.now) (lent (goal.at.After-gantry_page c).After-design_count-size ∙ ap (λ (k : ℕ). 44 * k) c.design_count-size.ensures)
+
+pub slice_bounds-gantry_page-end : goal.slice_bounds-gantry_page-end
+slice_bounds-gantry_page-end c = sym (lent (goal.at.slice_bounds-gantry_page-end c).After-design_count-size)
 
 pub returns-in-Ok-clause-text : goal.returns-in-Ok-clause-text
 returns-in-Ok-clause-text c =
