@@ -13,13 +13,13 @@ use Rattle.array.specs.Arrays.{Filled}
 pub filled_more : {A : Type 0} (d : A) (f : ℕ → A) {i : ℕ} {l : List A} (v : A) → i < 16 → Filled d i f l → v ≡ f i → Filled d (i + 1) f (set l i v)
 filled_more d f {i} {l} v h s e = record { sized = length-set l i v ∙ s.sized; each = store_more (λ (k : ℕ) x. x ≡ f k) l i v d (omega (arith, s.sized)) s.each e }
 
--- an array that a loop fills in place of what it held: from i on it is as it was
-pub record Replacing {A : Type 0} (d : A) (f : ℕ → A) (i : ℕ) (old l : List A) : Type 0 where
+-- an array given by index that a loop fills in place of what it held: from i on it is as it was (of any fact of each element: Replacing)
+pub record ReplacingByIndex {A : Type 0} (d : A) (f : ℕ → A) (i : ℕ) (old l : List A) : Type 0 where
   pub front : Filled d i f l
   pub rest : (k : ℕ) → i ≤ k → get_or l k d ≡ get_or old k d
 
-pub replaced_more : {A : Type 0} (d : A) (f : ℕ → A) {i : ℕ} {old l : List A} (v : A) → i < 16 → Replacing d f i old l → v ≡ f i → Replacing d f (i + 1) old (set l i v)
-replaced_more d f {i} {old} {l} v h s e = record {
+pub replaced_by_index : {A : Type 0} (d : A) (f : ℕ → A) {i : ℕ} {old l : List A} (v : A) → i < 16 → ReplacingByIndex d f i old l → v ≡ f i → ReplacingByIndex d f (i + 1) old (set l i v)
+replaced_by_index d f {i} {old} {l} v h s e = record {
   front = filled_more d f v h s.front e;
   rest = λ k b. get_or-set_other l i k v d (λ q. omega arith) ∙ s.rest k (omega arith);
 }
@@ -28,18 +28,18 @@ replaced_more d f {i} {old} {l} v h s e = record {
 pub stored_same : {A : Type 0} (d : A) {old l : List A} (i : ℕ) {v : A} → l ≡ old → v ≡ get_or l i d → set l i v ≡ old
 stored_same d {old} {l} i p e = ap (set l i) e ∙ set-get_or l i d ∙ p
 
--- two arrays that a loop fills in place of what they held, and a flag: where it is true, both are as they were
-pub record Storing {A : Type 0} (d : A) (f g : ℕ → A) (i : ℕ) (x₀ y₀ x y : List A) (same : Bool) : Type 0 where
-  pub first : Replacing d f i x₀ x
-  pub second : Replacing d g i y₀ y
+-- two arrays given by index that a loop fills in place of what they held, and a flag: where it is true, both are as they were
+pub record StoringByIndex {A : Type 0} (d : A) (f g : ℕ → A) (i : ℕ) (x₀ y₀ x y : List A) (same : Bool) : Type 0 where
+  pub first : ReplacingByIndex d f i x₀ x
+  pub second : ReplacingByIndex d g i y₀ y
   pub kept : same ≡ true → (x ≡ x₀) × (y ≡ y₀)
 
 -- one more of each, and a flag that says more
-pub storing_more : {A : Type 0} (d : A) (f g : ℕ → A) {i : ℕ} {x₀ y₀ x y : List A} {same same' : Bool} (v w : A) → i < 16 → Storing d f g i x₀ y₀ x y same → v ≡ f i → w ≡ g i
-    → (same' ≡ true → (same ≡ true) × ((v ≡ get_or x i d) × (w ≡ get_or y i d))) → Storing d f g (i + 1) x₀ y₀ (set x i v) (set y i w) same'
-storing_more d f g {i} v w h s p q a = record {
-  first = replaced_more d f v h s.first p;
-  second = replaced_more d g w h s.second q;
+pub storing_by_index : {A : Type 0} (d : A) (f g : ℕ → A) {i : ℕ} {x₀ y₀ x y : List A} {same same' : Bool} (v w : A) → i < 16 → StoringByIndex d f g i x₀ y₀ x y same → v ≡ f i → w ≡ g i
+    → (same' ≡ true → (same ≡ true) × ((v ≡ get_or x i d) × (w ≡ get_or y i d))) → StoringByIndex d f g (i + 1) x₀ y₀ (set x i v) (set y i w) same'
+storing_by_index d f g {i} v w h s p q a = record {
+  first = replaced_by_index d f v h s.first p;
+  second = replaced_by_index d g w h s.second q;
   kept = λ e. let new = a e in
       let old = s.kept new.0 in
       (stored_same d i old.0 new.1.0, stored_same d i old.1 new.1.1);

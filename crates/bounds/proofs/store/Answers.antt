@@ -4,7 +4,7 @@ use native.Mathlib.Nat.{le_trans, mul-le-mul}
 use lib.Pow.{pow_pos}
 use Rattle.integer.specs.Round.{ceil}
 use Rattle.integer.proofs.Floor.{ceil_most}
-use Rattle.array.proofs.Filling.{storing_more}
+use Rattle.array.proofs.Filling.{storing_by_index}
 use Rattle.bounds.specs.Steps.{q_at}
 use Rattle.bounds.proofs.store.Goals.{In-loop-i, Start}
 use Rattle.bounds.proofs.store.Goals as goal
@@ -44,7 +44,7 @@ overflow_add-v-in-loop-i c = record { fits = omega (arith, new (goal.at.overflow
 pub loop-i-preserved : goal.loop-i-preserved
 unfolding q_at
 loop-i-preserved c =
-    storing_more 0 (λ k. get_or c.args.new.now k 0) (q_at c.args.t c.args.new.now c.args.e.now) _ _ (omega arith) c.loop-i.invariant refl (rw (c.ceil_div.ensures, e-old (goal.at.loop-i-preserved c).In-loop-i) refl)
+    storing_by_index 0 (λ k. get_or c.args.new.now k 0) (q_at c.args.t c.args.new.now c.args.e.now) _ _ (omega arith) c.loop-i.invariant refl (rw (c.ceil_div.ensures, e-old (goal.at.loop-i-preserved c).In-loop-i) refl)
     (λ e. let both = and_parts _ _ e in
     let first = and_parts _ _ both.0 in
     (first.0, (eqb-true _ _ first.1, eqb-true _ _ both.1)))
