@@ -7,5 +7,7 @@ use std::io;
 fn main(rt: HostRuntime) -> io::Result<()> {
     let mut drive = file::drive_room();
     let size = file::read_file(&rt, b"drive.hex", &mut drive);
-    rt.write_all(page_text::page(&drive[..size]).as_bytes())
+    let mut text = [0; page_text::PAGE_ROOM];
+    let n = page_text::page(&drive[..size], &mut text);
+    rt.write_all(&text[..n])
 }

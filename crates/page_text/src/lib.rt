@@ -1,12 +1,10 @@
 // What the page program prints, from the bytes of its file.
 #![tactic(auto)]
 
-ghost use Rattle.std.specs.Prelude.{◌≡◌, ◌≤◌, length};
+ghost use Rattle.std.specs.Prelude.{◌≡◌, ◌≤◌, length, take};
 ghost use Rattle.image.specs.Sizes.{Sound};
 ghost use Rattle.design_page.specs.Page.{design_count};
 ghost use Rattle.page_text.specs.Text.{page_text};
-
-use text::Text;
 
 // Room for the largest page: 561 lines of 44 bytes.
 pub const PAGE_ROOM: usize = 24684;
@@ -24,16 +22,18 @@ fn design_count(drive: &[u8]) -> usize
     )
 }
 
-// What the page program prints.
-#[tactic(auto, using(design_page::proofs::Length::count_high))]
-pub fn page(drive: &[u8]) -> Text<PAGE_ROOM>
-    ensures text { result ≡ page_text drive.now }
-    ensures room { length result ≤ 24684 }
+// Writes what the page program prints in front of a buffer that has room for the largest page, and answers its length. The buffer is lent: a text
+// by value would stand in the stack of the program three times more.
+pub fn page(drive: &[u8], out: &mut [u8]) -> usize
+    requires { 24684 ≤ length out.old }
+    ensures { (result ≤ 24684) × (take result out.new ≡ page_text drive.now) }
 {
-    let size = 44 * design_count(drive);
-    let mut page = [0; PAGE_ROOM];
-    match gantry::gantry_page(drive, &mut page[..size]) {
-        Ok(()) => Text::new(page, size),
-        Err(why) => Text::refused(why.into()),
+    let length = 44 * design_count(drive);
+    match gantry::gantry_page(drive, &mut out[..length]) {
+        Ok(()) => length,
+        Err(why) => {
+            text::put_refusal(out, why.into());
+            11
+        }
     }
 }
