@@ -23,7 +23,7 @@ fn design_count(drive: &[u8]) -> usize
 }
 
 // Writes what the page program prints in front of a buffer that has room for the largest page, and answers its length. The buffer is lent: a text
-// by value would stand in the stack of the program three times more.
+// by value would take three times the stack of the program.
 pub fn page(drive: &[u8], out: &mut [u8]) -> usize
     requires { 24684 ≤ length out.old }
     ensures { (result ≤ 24684) × (take result out.new ≡ page_text drive.now) }
